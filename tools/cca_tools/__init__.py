@@ -1,4 +1,4 @@
-"""The second program of `cca`: auctions, books and certificates in Python, written from the pages of `docs/` alone.
+"""The second program of `cca`: auctions, books and certificates in Python, written only from the pages of `docs/`.
 
 What a caller needs is here: the readers, the auction, the tests of a certificate, the kinds of amounts, and the stop
 that each of them may raise.

@@ -22,7 +22,7 @@ USAGE = (
 
 
 def main(argv: Sequence[str]) -> int:
-    """Runs the command that the first argument names with the words after it, and returns its status."""
+    """Runs the command that the first argument names, with the arguments after it, and returns its status."""
     if list(argv) in (*HELP, VERSION):
         text = version_line("cca_tools") if list(argv) == VERSION else USAGE
         return DONE if written(sys.stdout, text) else WRITE_FAULT

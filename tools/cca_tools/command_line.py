@@ -1,8 +1,7 @@
-"""What each command of the package does around its own work: its words, its help, what it prints and its status.
+"""What each command of the package does around its own work: its arguments, its help, what it prints and its status.
 
 An answer, also "no" (status 1), goes to standard output. A fault goes to standard error with what it means and what to
-do next; where the output of a command has to agree with that of `cca`, the line of the fault goes to standard output,
-as `cca` has it.
+do next. If a command has to print the same as `cca`, the line of the fault goes to standard output, as in `cca`.
 """
 
 from __future__ import annotations
@@ -31,8 +30,8 @@ VERSION = ["--version"]
 
 
 def package_command() -> str:
-    """The command of the package by which this process was started, `cca-tools` or `python3 -m cca_tools`, or nothing
-    if it was started in another way, as by a script of `tools/`."""
+    """The command of the package that started this process, `cca-tools` or `python3 -m cca_tools`; empty if something
+    else started it, such as a script of `tools/`."""
     started = pathlib.Path(sys.argv[0])
     if started == pathlib.Path(__file__).with_name("__main__.py"):
         return "python3 -m cca_tools"
@@ -67,10 +66,10 @@ class Parser(argparse.ArgumentParser):
     def __init__(
         self, name: str, about: str, *usage: str, agrees: bool = False, colour_of: ColourOf = lambda line: None
     ) -> None:
-        """`name` is that of the script in `tools/`, `about` the docstring of the command's module.
+        """`name` is the name of the script in `tools/`, and `about` the docstring of the command's module.
 
-        `usage` has the forms of the words if there are several, without the name; `agrees` is whether what it prints
-        has to agree with `cca`; `colour_of` gives the colour of a line that is printed on a terminal.
+        `usage` has the forms of the arguments if there are several, without the name. `agrees` is whether the command
+        has to print the same as `cca`. `colour_of` returns the colour of a line that is printed on a terminal.
         """
         super().__init__(
             prog=called_as(name),
@@ -97,7 +96,7 @@ class Parser(argparse.ArgumentParser):
             self.add_argument(dest, metavar=name, help=about)
 
     def words_of(self, argv: Sequence[str]) -> argparse.Namespace:
-        """The words, tested."""
+        """The arguments, tested."""
         self.need_options(argv)
         options = self.parse_args(argv)
         names = list(self.names_of_files(options))
@@ -117,7 +116,7 @@ class Parser(argparse.ArgumentParser):
                 self.error(f"there is no option {word}" + (f"; did you mean {near[0]}?" if near else ""))
 
     def names_of_files(self, options: argparse.Namespace) -> Iterator[str]:
-        """The names of files among the words."""
+        """The names of files among the arguments."""
         for dest in self.files:
             value = getattr(options, dest)
             yield from value if isinstance(value, list) else [] if value is None else [value]
@@ -147,7 +146,8 @@ def run_command(parser: Parser, run: Run, argv: Sequence[str]) -> int:
 
 
 def unraised(fault: sys.UnraisableHookArgs) -> None:
-    """Says nothing of a fault that Python ignores, as that of a file that is closed last, if it is the system's."""
+    """Doesn't report a fault that Python ignores if it is the system's, such as a file that can't be closed at the
+    end."""
     if not (isinstance(fault.exc_value, Exception) and reason(fault.exc_value)):
         sys.__unraisablehook__(fault)
 
@@ -158,7 +158,7 @@ def lacking(why: str) -> Stop:
 
 
 def text_of(parser: Parser, run: Run, argv: Sequence[str]) -> str:
-    """What a command prints for these words."""
+    """What a command prints for these arguments."""
     if list(argv) in HELP:
         return parser.format_help().rstrip()
     return version_line(parser.prog) if list(argv) == VERSION else run(parser.words_of(argv))
@@ -189,7 +189,7 @@ def stopped(parser: Parser, stop: Stop) -> int:
 
 
 def fault_lines(parser: Parser, stop: Stop) -> Iterator[str]:
-    """What is said of a fault: usage and the wrong word, or what its line means, and what to do next."""
+    """The lines that report a fault: the usage and the wrong argument, or what its line means and what to do next."""
     if stop.status == WORDS:
         if stop.usage:
             yield stop.usage.rstrip()
@@ -200,8 +200,7 @@ def fault_lines(parser: Parser, stop: Stop) -> Iterator[str]:
 
 
 def crashed(parser: Parser) -> int:
-    """Says that the command failed where it shouldn't, which is no answer about its files, and returns the status of
-    that."""
+    """Reports that the command crashed, which says nothing about its files. Returns the status of a crash."""
     say(traceback.format_exc().rstrip())
     say(f"{parser.prog}: this is a fault of the tool, and no answer. Please report it with the lines above.")
     return CRASH
@@ -212,7 +211,7 @@ def status_of_output(parser: Parser, text: str, status: int) -> int:
     fault = fault_of_writing(sys.stdout, "\n".join(dressed(text, sys.stdout, parser.colour_of)))
     if fault is None:
         return status
-    # (a reader that is gone, as `head` is, wants no more)
+    # (a reader that has ended, such as `head`, wants no more)
     if fault.errno != errno.EPIPE:
         say(f"{parser.prog}: the output isn't whole, since it can't be written: {fault.strerror}.")
     return WRITE_FAULT

@@ -1,8 +1,8 @@
 """What a run does at Ctrl-C, and how it ends if an import of the package fails.
 
-A run that is interrupted ends with 130 and without a word, and one that crashes with 70: Python's own status of both
-is 1, that of a verdict `no ..`. The scripts of tools/ have their own `crashed` and `interrupted`, since they have to
-end so too if the package isn't there.
+A run that is interrupted ends with 130 and without a word, and one that crashes with 70: Python's own status of both is
+1, which is the status of a verdict `no ..`. The scripts of tools/ have their own `crashed` and `interrupted`, since
+they have to end in the same way if the package isn't there.
 """
 
 from __future__ import annotations
@@ -20,7 +20,7 @@ NO_THREAD = "can't start new thread"
 
 
 def reason(fault: BaseException) -> str:
-    """Why the system or Python didn't give what a run needs, or nothing: the fault is one of the tool."""
+    """Why the system or Python failed to supply what a run needs; empty if the fault is the tool's own."""
     if isinstance(fault, OSError):
         return f"{fault.filename or 'the system'}: {fault.strerror or fault}"
     if isinstance(fault, EOFError):

@@ -15,7 +15,7 @@ Colour: TypeAlias = Literal["red", "green", "bold"]
 CODES: dict[Colour, str] = {"red": "31", "green": "32", "bold": "1"}
 NARROWEST = 40
 LONGEST = 6  # digits of a width that is believed
-SECONDS = 2.0  # so long nothing is said
+SECONDS = 2.0  # a run that takes less reports nothing
 NO_COLUMN = ("Mn", "Me", "Cf")  # the kinds of marks that have no column of their own
 
 
@@ -25,27 +25,28 @@ def is_terminal(stream: IO[str] | None) -> bool:
 
 
 def width(stream: IO[str] | None, most: int = 10_000) -> int:
-    """How many columns a text has: those of the terminal, at most this many; this many where it goes to a file."""
+    """How many columns a text has: the terminal's, at most `most`; `most` if the text goes to a file."""
     return max(NARROWEST, min(most, shutil.get_terminal_size().columns)) if is_terminal(stream) else most
 
 
 def given_width() -> int | None:
-    """How many columns the variable COLUMNS gives, None if it gives none."""
+    """How many columns the variable COLUMNS states; None if it states no number."""
     given = os.environ.get("COLUMNS", "")
     is_number = given.isascii() and given.isdecimal() and len(given) <= LONGEST
     return max(NARROWEST, int(given)) if is_number else None
 
 
 def screen(stream: IO[str] | None) -> int | None:
-    """How many columns the screen has that a stream goes to: a terminal, or that of `watch --color`, which gives its
-    width in COLUMNS; None if it goes to none."""
+    """How many columns the stream's screen has: a terminal, or the screen of `watch --color`, which states its width in
+    COLUMNS. None if the stream doesn't go to a screen."""
     if is_terminal(stream):
         return width(stream)
     return given_width() if os.environ.get("FORCE_COLOR") else None
 
 
 def has_colours(stream: IO[str] | None) -> bool:
-    """Whether a stream takes colours: a terminal, or where FORCE_COLOR is set, and never where NO_COLOR is."""
+    """Whether a stream takes colours: a terminal does, any stream does if FORCE_COLOR is set, and none does if NO_COLOR
+    is set."""
     if os.environ.get("NO_COLOR"):
         return False
     return bool(os.environ.get("FORCE_COLOR")) or is_terminal(stream) and os.environ.get("TERM") != "dumb"
@@ -83,13 +84,13 @@ def columns_of(text: str) -> int:
 
 
 def padded(text: str, columns: int, to_right: bool = False) -> str:
-    """The text with spaces up to so many columns, after it, or before it where it stands to the right."""
+    """The text filled with spaces up to this many columns: after it, or before it if it is aligned to the right."""
     spaces = " " * (columns - columns_of(text))
     return spaces + text if to_right else text + spaces
 
 
 def pieces(word: str, columns: int) -> Iterator[str]:
-    """A word in pieces of at most so many columns."""
+    """A word in pieces of at most this many columns."""
     piece = ""
     for letter in word:
         if piece and columns_of(piece + letter) > columns:
@@ -100,8 +101,8 @@ def pieces(word: str, columns: int) -> Iterator[str]:
 
 
 def filled(text: str, columns: int, first: str = "", later: str = "") -> list[str]:
-    """The words of a text in lines of so many columns, with these beginnings; a word that is wider is broken. Words end
-    at a space, and not at one that says it doesn't break. Without a word there is no line."""
+    """Breaks a text into lines of this many columns, with these beginnings, and returns the lines. Breaks a word that
+    is wider. Words end at a space, but not at a no-break space. A text without words has no lines."""
     lines, is_begun = [first], False
     for word in filter(None, text.split(" ")):
         for piece in pieces(word, max(1, columns - columns_of(later))):
@@ -115,14 +116,14 @@ def filled(text: str, columns: int, first: str = "", later: str = "") -> list[st
 
 
 class Progress:
-    """Says on standard error what is done, once a run takes more than two seconds. Nothing is said where that is no
+    """Reports on standard error what is being done, once a run takes more than two seconds, if standard error is a
     terminal."""
 
     def __init__(self) -> None:
         self.name, self.doing, self.is_late = "", "", False
 
     def step(self, doing: str) -> None:
-        """What is done from now on, as `drawing the page`."""
+        """Sets what is done from now on, such as `drawing the page`."""
         self.doing = doing
         if self.is_late:
             self.say()

@@ -14,7 +14,7 @@ UNKNOWN = "0+unknown"
 
 
 def version() -> str:
-    """The version by the file VERSION of the repository, else that of the installed package, else `UNKNOWN`."""
+    """The version by the file VERSION of the repository, else the installed package's, else `UNKNOWN`."""
     if (ROOT / "tools" / "cca_tools").is_dir():
         with contextlib.suppress(OSError):
             return (ROOT / "VERSION").read_text(encoding="utf-8").strip() or UNKNOWN
@@ -34,7 +34,7 @@ def released_facts() -> dict[str, str]:
 
 
 def released() -> str | None:
-    """The commit that this release was made of; None if this is no release."""
+    """The commit that this release was made from; None if this isn't a release."""
     return released_facts().get("commit")
 
 

@@ -12,11 +12,11 @@ the columns are in this order:
 With --award the columns of counts have the names of its categories, or are called c1, c2 and so on; otherwise they are
 in the order of --supply. An amount such as 48.000 may be 48 or 48000: other amounts of the table decide, or --decimal.
 
-JSON is {"supply": [4, 14], "reserve": [10, 2], "bids": [{"bidder": "north", "package": [1, 4], "amount": 48000.5}]},
-or a list of records with the keys of a table's heads, as pandas and R write frames. What is sold comes from --supply,
-from --award, or from the JSON. A file that is a book already is read as it is, and --as csv or --as json prints it in
-the other forms. --as values prints a file of values for tools/rehearse and tools/study, in which each package is worth
-its amount.
+JSON is {"supply": [4, 14], "reserve": [10, 2], "bids": [{"bidder": "north", "package": [1, 4], "amount": 48000.5}]}, or
+a list of records with the keys of a table's heads, as pandas and R write frames. What is sold comes from --supply, from
+--award, or from the JSON. A file that is a book already is read as it is, and --as csv or --as json prints it in the
+other forms. --as values prints a file of values for tools/rehearse and tools/study, where each package is worth its
+amount.
 
 Statuses are as in docs/FORMATS.md; 3 if a row isn't a bid, and the message names the row. What it doesn't test: whether
 a bidder meant what it bid. The order of the bidders is the order of their first rows, and it decides ties.
@@ -67,7 +67,7 @@ def numbers_of(text: str, option: str) -> list[Decimal]:
 
 
 def sold_of(options: argparse.Namespace) -> Sold | None:
-    """What the words say is sold."""
+    """The supply and the reserves that the arguments state, or None."""
     if options.award:
         if options.supply or options.reserve:
             parser().error("--award says what is sold, so --supply and --reserve aren't given")

@@ -117,7 +117,7 @@ def package_lines(
 
 
 def cap_lines(head: str, cap: Cap) -> Iterator[str]:
-    """A cap as a line, and in an award of version 2 that of the final round as a second one."""
+    """A cap as a line, and in an award of version 2 the cap by the final round as a second one."""
     if cap.amount is None:
         yield f"{head} no cap"
         return
@@ -127,7 +127,7 @@ def cap_lines(head: str, cap: Cap) -> Iterator[str]:
 
 
 def step_line(word: str, cap: Cap) -> str:
-    """What one round says of a cap."""
+    """What one round shows about a cap."""
     return (
         f"{word} {cap.constraining_round} held {counts(cap.held)} stands {cap.standing} prices {counts(cap.prices)} "
         f"cap {cap.by_round}"
@@ -167,7 +167,7 @@ def clock_lines(auction: Auction, j: BidderNumber, given: Sequence[Package]) -> 
 
 
 def fit_lines(auction: Auction, j: BidderNumber) -> Iterator[str]:
-    """The greatest list that is admitted and has no amount above that of the draft list, then the lines that lead to
+    """The greatest list that is admitted and has no amount above the draft list's amount, then the lines that lead to
     it."""
     name, drafts = auction.award.names[j - 1], dict(auction.drafts(j))
     fitted = auction.caps(j).fitted(drafts)

@@ -1,16 +1,16 @@
-"""The auctioneer's desk: pages in a browser on this machine alone, by which an auction is held. It prints its address
-and a key; nobody enters without the key, which is new at each start.
+"""The auctioneer's desk: pages for running an auction, in a browser on this machine only. It prints its address and a
+key; nobody enters without the key, which is new at each start.
 
 A line is shown with both programs' reply before it is written. It is written once, whole, and synced to the disk before
-anybody reads its reply. A close says what it does, and asks for the number of the open round, or for the words `end the
+anybody reads its reply. A close says what it does, and asks for the number of the open round, or for the text `end the
 clock` or `end the auction`. Next to LOG are its journal (LOG.desk: when each line came in and what was replied;
 tools/journal prints it), the key of the seals (LOG.key), the posted lines (LOG.posted: a sealed line for each close and
-each round that is held again; tools/seal tests it) and each longer log that was cut (LOG.cut-N).
+each round that is run again; tools/seal tests it) and each longer log that was cut (LOG.cut-N).
 
 Once the auction is closed the desk awards, has both programs audit, makes the report (LOG.html, LOG.txt) and the set
 that is published (LOG.set).
 
-With --second a close and a round that is held again wait until a second person, who enters by the second key in a
+With --second a close, and a round that is run again, wait until a second person, who enters by the second key in a
 browser of its own, has seen and approved them; the journal has both names.
 
 The room's screen, /posted, needs no key; show it in a browser of its own. For the desk take a browser profile without
@@ -135,7 +135,8 @@ def desk(options: argparse.Namespace) -> str:
 
 
 def served(options: argparse.Namespace, path: Path, port: int) -> str:
-    """Makes the desk and serves it; the libraries are loaded here, so that words are answered without them."""
+    """Makes the desk and serves it; the libraries are loaded here, so that wrong arguments are reported without
+    them."""
     from cca_tools.desk.answers import NoProgram
     from cca_tools.desk.control import Desk, Files
     from cca_tools.desk.ending import Ending
@@ -179,8 +180,8 @@ def serve(app: object, listener: socket.socket) -> None:
 
     from cca_tools.desk.guard import MOST_BYTES
 
-    progress.step("")  # (it waits for requests, and says nothing of that)
-    logging.getLogger("waitress").setLevel(logging.CRITICAL)  # (it tells of connections, in words of Python)
+    progress.step("")  # (it waits for requests, which isn't reported)
+    logging.getLogger("waitress").setLevel(logging.CRITICAL)  # (it reports connections, in terms of Python)
     soft, hard = resource.getrlimit(resource.RLIMIT_NOFILE)
     resource.setrlimit(resource.RLIMIT_NOFILE, (min(hard, max(soft, 4 * CONNECTIONS)), hard))
     waitress.serve(

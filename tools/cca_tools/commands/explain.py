@@ -42,7 +42,7 @@ from cca_tools.rules.winners import winning_choice
 from cca_tools.rules.words import bidder_of
 from cca_tools.terminal import Colour
 
-# The files of each command, in the order of its words; the last one of a command that writes it may be missing.
+# The files of each command, in the order of its arguments; the last one of a command that writes it may be missing.
 READ = {
     "auction": ["award", "log"],
     "award": ["award", "log"],
@@ -82,7 +82,7 @@ class Steps:
 
     def __init__(self, command: str, files: Sequence[str], bidder: str | None = None) -> None:
         self.command, self.files, self.bidder = command, dict(zip(READ[command], files)), bidder
-        self.found: list[str] = []  # what is said of lines and edits
+        self.found: list[str] = []  # sentences about lines and edits
         self.notes: list[str] = []
 
     def text(self, kind: str) -> bytes:
@@ -90,7 +90,7 @@ class Steps:
         return load(self.files[kind], kind)
 
     def take(self) -> str:
-        """Takes all steps, and gives what can be said where none of them stops."""
+        """Takes all steps, and returns what can be said if none of them stops."""
         if "slots" in self.files:
             return self.take_slots()
         if self.bidder is not None:
@@ -164,7 +164,7 @@ def lines_words(count: int) -> str:
 
 
 def are(count: int) -> str:
-    """The verb for this many things."""
+    """`is` for one, else `are`."""
     return "is" if count == 1 else "are"
 
 
@@ -187,7 +187,7 @@ def own_refused_lines(award: Award, line: Line, reply: Reply) -> Iterator[str]:
 
 
 def refused_lines(award: Award, line: Line, reply: Reply) -> Iterator[str]:
-    """A refused line with its reply, where it is, and why."""
+    """A refused line with its reply, its place, and the reason."""
     yield f"{line.number} {reply.text()}: record {line.number}, line {line.row} of the file, `{record_text(line)}`"
     yield f"  {reason(award, line, reply)}"
 
@@ -212,7 +212,7 @@ def need_winners(book: Book, weights: Sequence[int]) -> None:
 
 
 def words_fault(command: str, files: Sequence[str], bidder: str | None) -> str:
-    """Why the words aren't of a command's plain form, or nothing."""
+    """Why the arguments aren't in a command's plain form, or an empty text."""
     if command not in READ:
         near = difflib.get_close_matches(command, READ, 1)
         meant = f"; did you mean `{near[0]}`?" if near else ""

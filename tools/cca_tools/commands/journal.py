@@ -1,13 +1,13 @@
-"""Prints the protocol of an auction's day from the desk's journal (LOG.desk): when each line was answered and with
-which reply, what was posted, each cut and each repair with its reason and the file that keeps what was taken away, who
+"""Prints the protocol of an auction's day from the desk's journal (LOG.desk): each line with its reply and the time of
+the reply, what was posted, each cut and each repair with its reason and the file that keeps what was taken away, who
 approved it, and how often the clock of the machine was set back. It ends with lines for signatures.
 
     tools/journal JOURNAL
     tools/journal JOURNAL --check AWARD LOG KEY POSTED
 
---check tests instead that the journal is one chain that begins with this award and this key and leads to LOG; that each
-reply is right; that it posted exactly the lines of POSTED, each when it was due, with its seal; that each close was
-posted; and that the files of what was cut are next to the journal, or in `kept` there. It prints `yes`, or `no` and the
+--check tests instead that the journal is one chain that begins with this award and this key and leads to LOG, that each
+reply is right, that it posted exactly the lines of POSTED, each when it was due, with its seal, that each close was
+posted, and that the files of what was cut are next to the journal, or in `kept` there. It prints `yes`, or `no` and the
 first fault, with status 1.
 
 Each line of the journal has the checksum of the line before it, and each posted line covers it with its seal. So
@@ -45,7 +45,7 @@ WORDS = {
     "started again": "The desk is started again.",
     "other tools": "The desk is started with other tools.",
 }
-# What is said in other words, or is no fact for people.
+# Members that the protocol shows in another form, or that aren't facts for people.
 SILENT = {"replies", "line", "upto", "kept_sums", "whole", "version", "stay"}
 NAMES = {"why": "reason", "key": "SHA-256 of the key", "by": "asked for by", "approved": "approved by"}
 SIGNATURES = "Auctioneer", "Second person", "Witness"
@@ -90,7 +90,7 @@ def rows(entry: Entry, first: int) -> Iterator[str]:
 
 
 def head_words(entry: Entry) -> str:
-    """What an entry is, in a sentence; nothing for lines that are answered."""
+    """What an entry is, in a sentence; empty for lines with replies."""
     if entry.what == "posted":
         return f"Posted: {printable(posted_of(entry)[0].text())}"
     if entry.what == "cut" and entry.more.get("stay") is True:

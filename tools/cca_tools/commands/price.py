@@ -66,7 +66,7 @@ def read_files(options: argparse.Namespace) -> tuple[Asked, Book, list[int] | No
 
 
 def need_words(options: argparse.Namespace) -> int:
-    """Tests the words together. Returns the seconds of the search for fewer rows."""
+    """Tests the arguments together. Returns the seconds of the search for fewer rows."""
     files = [options.first, options.second, options.third, options.weights]
     if "-" in files:
         parser().error("each file is read again by the checker, so none is standard input or output")

@@ -5,12 +5,12 @@ With --json it is one object a line, with numbers. With --decimal , the decimal 
 between the cells.
 
 Prices come from the program that CCA_PROGRAM names, or that ./cca has built. If more bidders win than it prices,
-tools/price finds the prices and the program tests them; the column `found_by` says `cca` or `tools/price`. `tie` is
-yes if several choices have the winning value, so that the order of bidders and packages decides. Books are priced on
-all processors, and come in the order of the arguments. A book beyond a limit doesn't stop the others: its rows have the
-limit in the column `stopped`, and packages, bids and Vickrey prices by `cca win` alone. Another fault of a book ends
-the run with the status that `cca` has for it. `tools/book` makes books of tables; --unit is what it multiplied amounts
-by.
+tools/price finds the prices and the program tests them; the column `found_by` says `cca` or `tools/price`. `tie` is yes
+if several choices have the winning value, so that the order of bidders and packages decides. Books are priced on all
+processors, and come in the order of the arguments. A book beyond a limit doesn't stop the others: its rows have the
+limit in the column `stopped`, and packages, bids and Vickrey prices by `cca win`, and nothing else. Another fault of a
+book ends the run with the status that `cca` has for it. `tools/book` makes books of tables; --unit is what it
+multiplied amounts by.
 """
 
 from __future__ import annotations
@@ -39,7 +39,7 @@ def parser() -> Parser:
 
 
 def unit_of(text: str) -> int:
-    """The number by which amounts are divided."""
+    """The number that amounts are divided by."""
     most = MOST["draft amount"]
     if not (text.isascii() and text.isdigit() and len(text) <= len(str(most)) and 0 < int(text) <= most):
         parser().error(f"--unit takes a whole number from 1 to {most}, and `{clipped(text)}` isn't that")

@@ -271,7 +271,7 @@ def result_of(facts: source.Source) -> Result:
 
 
 def title_of(options: argparse.Namespace) -> str:
-    """The title where the names have none: the award's own name."""
+    """The title if the names have none: the award's own name."""
     return source.visible(options.award).rpartition(".")[0] or source.visible(options.award)
 
 

@@ -1,4 +1,4 @@
-"""Holds a whole auction of bidders that follow their values, and writes its lines into LOG, which the program and the
+"""Runs a whole auction of bidders that follow their values, and writes its lines into LOG, which the program and the
 other tools read. VALUES has a model for each bidder, in TOML; values are drawn from the seed, and are the same on every
 machine:
 
@@ -20,7 +20,7 @@ In the clock each bidder is straightforward: it asks for the package of greatest
 caps, its budget and the supply; of several for one with the most points, and of these for the first in the order of
 packages; for none if no profit is 0 or more. In the sealed round it lists each package (at most 300) with what it names
 of its value, and submits. With --fit entries above their caps are lowered to them first; without it such a list is
-refused. --share holds for the bidders whose tables have no share.
+refused. --share applies to the bidders whose tables have no share.
 
 With --pace the lines come one by one. With --desk the closes are left to you: LOG is watched, and the bidders go on
 when it has a close, so that a team can rehearse its day. Slips are lines that people send by mistake; they
@@ -86,7 +86,7 @@ def seconds_of(text: str) -> float:
 
 
 class LogFile:
-    """The file to which lines are appended."""
+    """The file that lines are appended to."""
 
     def __init__(self, name: str) -> None:
         self.name = name

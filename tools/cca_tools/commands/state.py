@@ -67,7 +67,7 @@ def parser() -> Parser:
 
 
 def columns() -> int:
-    """How wide the screen is. `watch` gives it in COLUMNS, and standard output is no terminal there."""
+    """How wide the screen is. `watch` states it in COLUMNS, since standard output isn't a terminal there."""
     return given_width() or width(sys.stdout)
 
 
@@ -90,7 +90,7 @@ def table(rows: Sequence[Cells]) -> Iterator[str]:
 
 
 def parts(widths: Sequence[int], most: int) -> Iterator[slice]:
-    """The columns after the first in parts that have room beside it, at least one each."""
+    """The columns after the first in parts that fit next to it, at least one each."""
     start, taken = 1, widths[0]
     for at, size in enumerate(widths[1:], 1):
         if at > start and taken + len(GAP) + size > most:
@@ -101,7 +101,7 @@ def parts(widths: Sequence[int], most: int) -> Iterator[slice]:
 
 
 def table_within(rows: Sequence[Cells], most: int) -> Iterator[str]:
-    """A table; where it is too wide its columns come in parts below one another, each with the first column."""
+    """A table. If it is too wide its columns come in parts below one another, each with the first column."""
     for place, part in enumerate(parts(widths_of(rows), most)):
         if place:
             yield ""
@@ -121,7 +121,7 @@ def by_category(categories: Sequence[CategoryState]) -> list[Cells]:
 
 
 def category_table(categories: Sequence[CategoryState]) -> Iterator[str]:
-    """The categories as columns where the screen is wide enough, and else as rows."""
+    """The categories as columns if the screen is wide enough, and else as rows."""
     rows = by_category(categories)
     is_wide = max(map(len, table(rows))) > columns()
     yield from table_within([list(column) for column in zip(*rows)] if is_wide else rows, columns())
@@ -176,7 +176,7 @@ def last_line(auction: Auction) -> Iterator[str]:
 
 
 def closed_words(auction: Auction) -> Iterator[str]:
-    """What there is to say of an auction that is over, a tie above all."""
+    """The lines about a closed auction, most of all about a tie."""
     bids = [len(auction.bids(j)) for j in range(1, len(auction.award.bidders) + 1)]
     yield f"The book has {sum(bids)} bids of {sum(map(bool, bids))} bidders."
     book = auction.book()
@@ -242,7 +242,7 @@ def state_lines(auction: Auction, names: LongNames) -> Iterator[str]:
 
 
 def state(options: argparse.Namespace) -> str:
-    """Where an auction is."""
+    """The state of an auction."""
     award = read_award(load(options.award, "award"))
     names = read_names(options.names, award)
     return "\n".join(state_lines(replay(award, read_log(load(options.log, "log"), award)), names))

@@ -1,4 +1,4 @@
-"""Holds many auctions of bidders with drawn values by a plan, and makes a table with a row for each auction and a page
+"""Runs many auctions of bidders with drawn values by a plan, and makes a table with a row for each auction and a page
 with pictures. The plan is TOML; its files are looked up from its folder:
 
     plan = 1
@@ -14,7 +14,7 @@ with pictures. The plan is TOML; its files are looked up from its folder:
     share = [100, 90]              # what bidders name of their values in the sealed round, in percent
     bidders = [4, 5]               # the first ones of the award
     reserve = 100                  # the award's reserves, in percent of them
-    format = ["clock", "sealed"]   # sealed: sealed bids alone, without a clock and without caps
+    format = ["clock", "sealed"]   # sealed: only sealed bids, without a clock and without caps
     shares = { elm = [100, 90] }   # a bidder's share, whatever its values have
     shades = { elm = [0, 25] }     # how much less a bidder names than that share of its values
     budgets = { elm = [300, 400] } # the most that a bidder asks and bids for
@@ -27,27 +27,27 @@ most of what is tried while all else stays as it is. The folder of --out (the pl
 tools, and the plan. A study that was stopped goes on if it is run again, also with more auctions, by the same program,
 tools and plan. A price below the Vickrey price or above the bid stops the study.
 
---auction N holds that auction again and nothing else: for each case, by its number, `auctions/N/1` and so on get its
-award, log and certificate (its book and certificate if bids were sealed alone), and the command that audits them is
-printed. If the folder has the row of the auction, it has to be the same.
+--auction N only runs that auction again: for each case, by its number, `auctions/N/1` and so on get its award, log and
+certificate (its book and certificate if all bids were sealed), and the command that audits them is printed. If the
+folder has the row of the auction, it has to be the same.
 
 In `table.csv` money is gross and in the award's unit. `value` is what all lots are worth where they end, and `best`
-what they could be worth, both by true values, with unsold lots at their reserve; `efficiency` is the one over the
-other. `core`, `vickrey` and `bids` are what the winners pay by each rule for the same bids, `raised` is whether the
+what they could be worth, both by true values, with unsold lots at their reserve; `efficiency` is `value` divided by
+`best`. `core`, `vickrey` and `bids` are what the winners pay by each rule for the same bids, `raised` is whether the
 core raised a price above Vickrey's, `tie` whether several choices have the winning value, so that the order of bidders
 and packages decided. `clock_price_` and `clock_excess_` have each category's price in the last round of the clock and
-what was asked for beyond its supply (below 0: what nobody asked for), `clock_revenue` what that came to. A bidder has
-its `share`, `shade` and `budget`, its package of that round (`clock`) and whether it won just that (`clock_won`); its
-`profit` is its value less its price, and its `regret` its price less its Vickrey price, the most that it gains if only
-it bids otherwise (Day and Milgrom 2008).
+what was asked for beyond its supply (below 0: what nobody asked for), and `clock_revenue` has what all that was asked
+for costs at these prices. A bidder has its `share`, `shade` and `budget`, its package of that round (`clock`) and
+whether it won just that (`clock_won`); its `profit` is its value less its price, and its `regret` its price less its
+Vickrey price, the most that it gains if only it bids otherwise (Day and Milgrom 2008).
 
-Who has found prices is in `found_by`: `cca`, whose prices are proved; `tools/price` if more bidders win than it prices,
+`found_by` says what found the prices: `cca`, whose prices are proved; `tools/price` if more bidders win than it prices,
 with certificates that `cca` tests; `cca win` if only winners and Vickrey prices are known. `core_zero`, `core_reserve`
 and `core_bids` are the core prices nearest to these points instead of Vickrey's (Erdil and Klemperer 2010): `cca win`
-finds their blocking coalitions and says at the end that none is left, their sum has to be that of `core`, and that they
-are the nearest is computed by the tools alone. Of every hundredth auction, the first one too, the certificate is tested
-by the rules of tools/audit (`audit`); one that fails stops the study. An auction beyond a limit of the program has that
-in `stopped`, and no core prices.
+finds their blocking coalitions and reports at the end that none is left. Their sum has to be the sum of `core`. Only
+the tools compute that they are the nearest. Of every hundredth auction, the first one too, the certificate is tested by
+the rules of tools/audit (`audit`); one that fails stops the study. An auction beyond a limit of the program has that in
+`stopped`, and no core prices.
 
 Prices come from the program that CCA_PROGRAM names, or that ./cca has built. All processors work, or with --scheduler
 the workers of Dask, such as those at tcp://127.0.0.1:8786: each needs python3-distributed and the program, at the same
@@ -79,7 +79,7 @@ from cca_tools.studies.store import LONG, PAGE, TABLE, Store, long_text, table_t
 from cca_tools.terminal import is_terminal
 
 MOST_PROCESSES = 1000
-STEPS = 10  # so often it is said how far a study is where standard error is no terminal
+STEPS = 10  # reports of a study's progress if standard error isn't a terminal
 
 
 def parser() -> Parser:
@@ -95,7 +95,7 @@ def parser() -> Parser:
 
 
 def processes_of(options: argparse.Namespace) -> int | None:
-    """The number of processes that the words state, or None."""
+    """The number of processes that the arguments state, or None."""
     text: str | None = options.processes
     if text is None:
         return None
@@ -142,7 +142,7 @@ class Count:
 
 
 def fill(store: Store, scheduler: str | None, processes: int | None) -> None:
-    """Holds the auctions of which there is no row yet."""
+    """Runs the auctions that have no row yet."""
     jobs = store.left()
     if not jobs:
         return

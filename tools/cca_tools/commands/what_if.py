@@ -80,7 +80,7 @@ def why_refused(auction: Auction, at: int) -> Iterator[str]:
 
 
 def changed_lines(before: Auction, after: Auction) -> Iterator[str]:
-    """The lines that are new, gone or answered otherwise."""
+    """The lines that are new, gone or have another reply now."""
     for i, j in pairs_of(before, after):
         if j is None:
             assert i is not None
@@ -103,7 +103,7 @@ def changed_bids(before: Auction, after: Auction) -> Iterator[str]:
 
 
 def result(auction: Auction) -> list[str]:
-    """The winners and prices and the ties, or why there is no book."""
+    """The winners and prices and the ties, or the reason for having no book."""
     try:
         book = auction.need_book()
         return [*price_lines(book), *tie_sentences(book, ties_of(book))]
@@ -141,7 +141,7 @@ def with_bid(book: Book, j: BidderNumber, package: Package, amount: Gross) -> Bo
 
 
 def least_amount(book: Book, j: BidderNumber, package: Package, low: Gross) -> Gross | None:
-    """The least amount from `low` on with which bidder j wins the package; None if none that may be bid does.
+    """The least amount from `low` on that wins the package for bidder j; None if no amount that may be bid wins it.
 
     With the amount the package has to bring as much as what would win without it; the order of ties decides whether
     that is enough, or one more is needed.
@@ -160,7 +160,7 @@ def least_amount(book: Book, j: BidderNumber, package: Package, low: Gross) -> G
 
 
 def book_with_list(auction: Auction, j: BidderNumber, listed: Mapping[Package, Gross]) -> Book:
-    """The book in which bidder j has submitted this list, all other bids as they are."""
+    """The book if bidder j had submitted this list, with all other bids unchanged."""
     clock = auction.highest_in_clock(j)
     nothing = Gross(0)
     amounts = {it: max(clock.get(it, nothing), listed.get(it, nothing)) for it in {*clock, *listed} if any(it)}
@@ -182,8 +182,8 @@ def least_to_draft(auction: Auction, j: BidderNumber, package: Package) -> Gross
 
 
 def mended_list(auction: Auction, j: BidderNumber, package: Package, amount: Gross) -> dict[Package, Gross] | None:
-    """An admitted list with the amount and with the submitted packages: the entries on which its cap rests are raised
-    by what it needs, and others are changed where their own caps ask for that. None if there is none."""
+    """An admitted list with the amount and with the submitted packages. The entries that the package's cap depends on
+    are raised by what it needs, and others are changed if their own caps require it. None if no such list exists."""
     caps = auction.caps(j)
     raised = caps.raised(dict(auction.submitted(j)), package, amount)
     if raised is None:
@@ -247,7 +247,7 @@ def admission(auction: Auction, j: BidderNumber, package: Package, amount: Gross
 
 
 def least(award: Award, log: bytes, name: str, words: Sequence[str]) -> list[str]:
-    """The least amount with which a bidder wins a package, whether it is admitted, and the prices with it."""
+    """The least amount that wins a package for a bidder, whether it is admitted, and the prices with it."""
     j, package = bidder_of(name, award), package_of(words, award)
     auction = replay(award, read_log(log, award))
     if auction.final is None:

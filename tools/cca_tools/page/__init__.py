@@ -1,1 +1,1 @@
-"""What only the report needs: its words, its pictures and its pages."""
+"""What only the report needs: its texts, its pictures and its pages."""

@@ -65,7 +65,7 @@ def made_by() -> str:
 
 
 def verdicts(source: Source) -> list[list[Content]]:
-    """What the program and the second program say of the certificate."""
+    """The verdicts of the program and the second program on the certificate."""
     command = "cca audit" if source.award else "cca check"
     rows: list[list[Content]] = []
     if source.certificate is None:
@@ -79,7 +79,7 @@ def verdicts(source: Source) -> list[list[Content]]:
 
 
 def sums(source: Source, with_program: bool) -> Table:
-    """The files by their sums, and where it is asked for the program."""
+    """The files with their checksums, and with the program if that is asked for."""
     rows: list[list[Content]] = [[KINDS[it.kind], it.name, Cell("", it.sum)] for it in source.sums]
     if with_program and source.program:
         path = pathlib.Path(source.program)

@@ -13,14 +13,14 @@ from cca_tools.page.ink import WINNERS, as_picture
 from cca_tools.page.svg import Drawing, share, width_of
 from cca_tools.rules.types import Amount, Gross, GrossPrice
 
-# The width of a picture in a card, which is that of a card on a phone, so that letters have their size there. Of a few
-# rounds each has its number, and of many a mark of its own; of more, rounds alike share one.
+# The width of a picture in a card: a card on a phone is as wide, so letters have their own size there. Up to FEW
+# rounds, each has its number. Up to MANY, each has a mark. Of more, rounds that are alike share a mark.
 WIDE, FEW, MANY = 300, 10, 60
 ROUND_LINE = 16
 
 
 def nice_step(span: float, most: int) -> int:
-    """The least of 1, 2, 5, 10 .. of which at most this many fit into a span."""
+    """The least of the steps 1, 2, 5, 10 .. that fits into a span at most this many times."""
     step, at = 1, 0
     while span / step > most:
         at += 1
@@ -41,7 +41,7 @@ def round_ticks(count: int, most: int) -> list[int]:
 
 
 def shortened(name: str, room: float) -> str:
-    """A name in this much room, with an ellipsis where it has more letters."""
+    """A name in this much room, with an ellipsis if it has more letters."""
     letters = max(2, int(room / width_of("m")))
     return name if len(name) <= letters else name[: letters - 1] + "\N{HORIZONTAL ELLIPSIS}"
 
@@ -73,8 +73,8 @@ class Frame:
 
 
 def draw_scale(drawing: Drawing, frame: Frame, places: Sequence[int], is_log: bool = False) -> None:
-    """The numbers of these heights at the left; on a logarithmic scale those of percents. No line goes from them
-    through the picture, where it would cross the labels of marks."""
+    """The numbers of these heights at the left; on a logarithmic scale they are percents. No line goes from them
+    through the picture, since it would cross the labels of marks."""
     for place in places:
         y = frame.y(doublings(place, 100) if is_log else place)
         drawing.line(frame.left - 3, y, frame.left, y, "soft", 1)
@@ -103,7 +103,8 @@ def price_says(number: int, price: Amount, first: Amount) -> str:
 
 
 def draw_prices(drawing: Drawing, frame: Frame, prices: Sequence[Amount], heights: Sequence[float]) -> None:
-    """A stair of prices, which only rise: so a label has room below the stair, and that of the last price above it."""
+    """A stair of prices. They only rise, so a label has room below the stair, and the label of the last price above
+    it."""
     path = list[tuple[float, float]]()
     for number, height in enumerate(heights, 1):
         path += [(frame.x(number), frame.y(before)) for before in heights[max(0, number - 2) : number - 1]]
@@ -118,7 +119,7 @@ def draw_prices(drawing: Drawing, frame: Frame, prices: Sequence[Amount], height
 
 
 def label_prices(drawing: Drawing, frame: Frame, prices: Sequence[Amount], heights: Sequence[float]) -> None:
-    """The labels of all prices where they have room, else of the first and of the last, which also has its rise."""
+    """The labels of all prices if they have room, else of the first and the last; the last label also has the rise."""
     labels = [f"{price:,}" for price in prices]
     last = len(prices) - 1
     below = range(last) if max(map(width_of, labels)) < frame.slot else range(min(1, last))
@@ -135,7 +136,7 @@ def price_part(
 ) -> Frame:
     """The prices of a category: in percent of its reserve where the categories share a scale up to this many, else on a
     scale of its own. Either begins at the reserve, with room for a label below. The shared scale is logarithmic, so
-    that a rise of 10 % is seen beside one of 300 %."""
+    that a rise of 10 % can be seen next to one of 300 %."""
     heights = [doublings(price, prices[0]) if most else float(price) for price in prices]
     high = doublings(max(LEAST_RISE, most), 100) if most else max(heights[-1], heights[0] + 1)
     drawing.text(0, top - 6, "price, in % of the reserve (log scale)" if most else "price of a lot, on its own scale")
@@ -145,7 +146,7 @@ def price_part(
     return frame
 
 
-LEAST_RISE = 110.0  # percent of the reserve, up to which a scale goes at least
+LEAST_RISE = 110.0  # percent of the reserve; a scale ends there or higher
 APART = 0.19  # of the scale's height: the room of a number
 
 
@@ -188,7 +189,7 @@ def demand_says(first: int, last: int, lots: int, supply: int, is_open: bool) ->
 
 
 def draw_bar(drawing: Drawing, frame: Frame, first: int, last: int, lots: int, supply: int, is_open: bool) -> None:
-    """The demand of rounds as a bar: hatched where above the supply, and an outline where a round is open."""
+    """The demand of rounds as a bar: hatched if it is above the supply, and an outline if the round is open."""
     above = lots > supply
     edge, fill = ("orange", "orangish") if above else ("green", "greenish")
     gap = 0.14 * frame.slot if frame.count <= 3 * FEW else 0
@@ -204,8 +205,7 @@ def draw_bar(drawing: Drawing, frame: Frame, first: int, last: int, lots: int, s
 
 
 def label_place(y: float, bottom: float, line: float) -> float:
-    """Where the letters of a bar's number are, so that a line doesn't cross them: above the bar, in it, or above the
-    line."""
+    """The place of a bar's number, so that a line doesn't cross them: above the bar, in it, or above the line."""
     above, inside = y - 4, y + 13
     if not above - 12 <= line <= above + 3:
         return above
@@ -310,7 +310,7 @@ def draw_activity(drawing: Drawing, one: Activity, top: float, bottom: float, mo
         before = here
 
 
-# The bidders up to which bars of points are tall, and have their numbers.
+# The most bidders for tall bars of points, and for bars with numbers.
 MOST_TALL, MOST_NUMBERED = 8, 12
 
 
@@ -340,8 +340,8 @@ def activities(key: str, title: str, about: str, every: Sequence[Activity], most
 
 @dataclass(frozen=True)
 class Paid:
-    """What a winner's package costs in several ways; the last one is what it costs at the final prices of the
-    clock, where there was one."""
+    """What a winner's package costs in several ways; the last one is its cost at the final prices of the clock, if
+    there was a clock."""
 
     name: str
     reserve: Amount
@@ -413,8 +413,8 @@ MOST_IN_ROW = 18  # of the narrowest lots, so that each has room for its letter
 
 @dataclass(frozen=True)
 class Strip:
-    """How the lots of a category are drawn: in so many rows, with so many in each, and how wide one is, in parts of the
-    whole width."""
+    """How the lots of a category are drawn: the number of rows, the lots in a row, and the width of a lot as a part of
+    the whole width."""
 
     rows: int
     in_row: int
@@ -442,7 +442,7 @@ def has_widths(every: Sequence[Band]) -> bool:
 
 
 def draw_cell(drawing: Drawing, x: tuple[float, float], y: float, winner: int, letter: str, says: str) -> None:
-    """A lot: the colour, the pattern and the letter of its winner; hatched where it is unsold."""
+    """A lot: the colour, the pattern and the letter of its winner; hatched if it is unsold."""
     place, width = share(x[0]), share(x[1])
     at = (winner - 1) % WINNERS + 1
     fill = f"w{at}" if winner else "ground"

@@ -25,7 +25,7 @@ Point: TypeAlias = tuple[Number, Number]
 Group: TypeAlias = tuple[BidderNumber, ...]
 TOP, BOTTOM = 22, 260
 MOST_TIMES = 8  # how many times what is paid above the Vickrey prices an axis may have
-SMALL = 60_000  # states times bids up to which a book needs no numpy
+SMALL = 60_000  # the most states times bids of a book that needs no numpy
 
 
 def best_without(book: Book, out: Collection[BidderNumber]) -> Net:
@@ -70,7 +70,7 @@ def bounds(book: Book, choice: Choice, winners: Sequence[BidderNumber]) -> dict[
 
 
 def clipped(polygon: list[Point], a: int, b: int, least: Number) -> list[Point]:
-    """The part of a polygon in which a x + b y is at least this much."""
+    """The part of a polygon with a x + b y at least this much."""
     kept: list[Point] = []
     for (x, y), (u, v) in zip(polygon, polygon[1:] + polygon[:1]):
         here, there = a * x + b * y - least, a * u + b * v - least
@@ -102,8 +102,8 @@ def alike(
 
 
 def shown(low: Sequence[Number], bid: Sequence[Number], both: Number) -> list[Number]:
-    """Up to which payments of two winners a picture goes: up to both bids, unless the payments of least sum would be
-    too small then."""
+    """The greatest payments of two winners in a picture: up to both bids, unless the payments of least sum would be too
+    small then."""
     above = both - low[0] - low[1]
     if above <= 0 or max(high - least for least, high in zip(low, bid)) <= MOST_TIMES * above:
         return list(bid)
@@ -112,7 +112,7 @@ def shown(low: Sequence[Number], bid: Sequence[Number], both: Number) -> list[Nu
 
 @dataclass(frozen=True)
 class Stage:
-    """A picture with an axis for each of two winners, on one scale: the values at its ends, and where it is drawn."""
+    """A picture with an axis for each of two winners, on one scale: the values at its ends, and its left edge."""
 
     drawing: Drawing
     xs: tuple[float, float]
@@ -146,8 +146,8 @@ class Stage:
         draw_marks(self.drawing, (x, y), (u, v), f"Vickrey prices: {told[0]}", f"paid: {told[1]}")
 
     def axes(self, names: Sequence[str], xs: Sequence[Number], ys: Sequence[Number]) -> None:
-        """The axes with their names, and numbers at these values, the first before the others, where they have room
-        beside each other."""
+        """The axes with their names, and numbers at these values, the first before the others, if they have room next
+        to each other."""
         draw, right = self.drawing, WIDE - 4
         draw.line(self.left, BOTTOM, right, BOTTOM, "soft", 1)
         draw.line(self.left, BOTTOM, self.left, TOP, "soft", 1)
@@ -221,8 +221,9 @@ def two(
 
 @dataclass(frozen=True)
 class Triangle:
-    """The payments of three winners that are at least their Vickrey prices and have one sum, as a triangle of equal
-    sides: at a corner one winner pays all that is above. So all distances are those of payments, on one scale."""
+    """The payments of three winners that are at least their Vickrey prices and have the same total, as a triangle of
+    equal sides: at a corner one winner pays all that is above. So all distances are differences of payments, on one
+    scale."""
 
     low: Sequence[Number]
     above: Number

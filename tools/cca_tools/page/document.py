@@ -1,4 +1,4 @@
-"""The parts of a report, of which a page is made and a text for a terminal. In texts `so` marks what is in the
+"""The parts of a report. A page is made from them, and a text for a terminal. In texts `so` marks what is in the
 program's form."""
 
 from __future__ import annotations
@@ -12,8 +12,8 @@ Tone: TypeAlias = Literal["", "good", "bad", "strong"]
 
 @dataclass(frozen=True)
 class Cell:
-    """What is in a table: words, the same in the program's form, whether it is good, bad or set off, and what the words
-    rest on, as rows of a small table, each with its head."""
+    """A cell of a table: its text, the text in the program's form, whether it is good, bad or set off, and the details
+    that explain the text, as rows of a small table, each with its head."""
 
     words: str
     code: str = ""
@@ -51,11 +51,11 @@ class Table:
     rows: Sequence[Sequence[Content]]
     note: str = ""
     is_full: bool = False  # takes all the room there is
-    is_result: bool = False  # has two lines for each winner where there is little room
+    is_result: bool = False  # has two lines for each winner if there is little room
 
     @property
     def is_long(self) -> bool:
-        """Whether it has a frame of its own in which it can be moved."""
+        """Whether it has a frame of its own that scrolls."""
         return len(self.rows) > 24 and not self.is_full
 
     @property
@@ -72,7 +72,7 @@ class Picture:
     about: str
     draw: Callable[[], str]
     table: Table
-    caption: str = ""  # where the card says already of what it is
+    caption: str = ""  # replaces the title in a card whose head already says what the picture is about
 
 
 @dataclass
@@ -85,7 +85,7 @@ class Words:
 
 @dataclass
 class Links:
-    """A paragraph of links to files that are beside the page: the text before them, and the path and words of each."""
+    """A paragraph of links to files in the page's folder: the text before them, and the path and label of each."""
 
     text: str
     links: Sequence[tuple[str, str]]
@@ -112,8 +112,8 @@ class Figures:
 
 @dataclass
 class Key:
-    """What the marks of the pictures below mean: the colour, the shape and the words of each; before them how such a
-    picture is read."""
+    """What the marks of the pictures below mean: the colour, the shape and the label of each. `reading` says how to
+    read such a picture, and comes before them."""
 
     marks: list[tuple[str, str, str]]
     reading: str = ""
@@ -136,7 +136,7 @@ class Card:
 
 @dataclass
 class Cards:
-    """Blocks of one kind, side by side where there is room."""
+    """Blocks of one kind, side by side if there is room."""
 
     cards: list[Card]
     size: Literal["", "mid", "wide", "full"] = ""
@@ -162,7 +162,7 @@ Block: TypeAlias = Table | Picture | Words | Links | Points | Figures | Key | Ca
 
 @dataclass
 class Section:
-    """A section of a report, with the key by which a page links to it, and what its numbers say in a sentence."""
+    """A section of a report, with the key that links of a page use, and what its numbers say in a sentence."""
 
     key: str
     title: str

@@ -11,7 +11,7 @@ from cca_tools.rules.clock import Round
 from cca_tools.rules.money import difference, price_total, total
 from cca_tools.rules.types import BidderNumber, Package
 
-NAMED = 3  # bidders or categories that a title names; of more it tells their number
+NAMED = 3  # the most bidders or categories that a title names; of more it has the number
 
 
 def capital(text: str) -> str:

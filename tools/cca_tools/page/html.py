@@ -52,7 +52,7 @@ def parts(cell: Content) -> tuple[str, str, str]:
 
 # The widest letter that is usual in tables, in units of 16 pixels, and the widths of stack.css.
 LETTER, STACKS = 0.56, (22, 28, 36, 42, 48, 62)
-# The letters of the head of a row up to which it stays on one line; of several bidders it has more.
+# The most letters of a row's head that stays on one line; the head of several bidders has more.
 MOST_KEY = 16
 
 
@@ -74,7 +74,7 @@ def least_width(table: Table, i: int, column: Column) -> int:
 
 
 def stack(table: Table) -> str:
-    """The class of a table whose cells are one below the other where there is too little room; none if it always has
+    """The class of a table whose cells are one below the other if there is too little room; empty if it always has
     room."""
     if table.is_full or table.is_result:
         return "lines" if table.is_full else "result"
@@ -84,7 +84,7 @@ def stack(table: Table) -> str:
 
 
 def details(cell: Cell) -> str:
-    """What the words of a cell rest on."""
+    """The details that explain the text of a cell."""
     rows = (
         f'<tr><th scope="row">{written(head)}</th>{"".join(f"<td>{written(value)}</td>" for value in values)}</tr>'
         for head, *values in cell.details
@@ -114,7 +114,7 @@ def cell_text(cell: Content) -> str:
 
 
 def tone_of(cell: Content) -> str:
-    """The class of a cell that is good, bad or strong, after that of its column."""
+    """The class of a cell that is good, bad or strong, after its column's class."""
     return f" {cell.tone}" if isinstance(cell, Cell) and cell.tone else ""
 
 
@@ -127,7 +127,7 @@ def row_texts(table: Table, name: str) -> Iterator[str]:
 
 
 def table_texts(table: Table, number: int) -> Iterator[str]:
-    """A table, in a frame of its own where it is long."""
+    """A table, in a frame of its own if it is long."""
     name = stack(table)
     group, row, head = (f' role="{it}"' if name else "" for it in ("rowgroup", "row", "columnheader"))
     label = "" if table.title else f' aria-label="{escape(table.columns[1].head)}"'
@@ -197,7 +197,7 @@ class Writer:
         yield "</figure>\n"
 
     def cards(self, cards: Cards) -> Iterator[str]:
-        """Cards, side by side where there is room."""
+        """Cards, side by side if there is room."""
         yield f'<div class="cards{" " + cards.size if cards.size else ""}">\n'
         for card in cards.cards:
             yield from self.card(card)

@@ -60,12 +60,12 @@ def variables(ground: str) -> str:
 
 
 def page_rules() -> str:
-    """The rules by which the marks of a page have the colours of its variables."""
+    """The style rules that give the marks of a page the colours of its variables."""
     return "".join(f".f-{it} {{ fill: var(--{it}) }} .s-{it} {{ stroke: var(--{it}) }}\n" for it in ROLES)
 
 
 def dark_rules(inner: str) -> str:
-    """The rules by which the marks of a picture have the colours of a dark ground, for the roles that it has."""
+    """The style rules that give the marks of a picture the colours of a dark ground, for the roles in the picture."""
     used = sorted(set(re.findall(r"\b[fs]-(?:" + "|".join(ROLES) + r")\b", inner)))
     properties = {"f": "fill", "s": "stroke"}
     return " ".join(f".{it} {{ {properties[it[0]]}: {ROLES[it[2:]][1]} }}" for it in used)
@@ -81,7 +81,7 @@ def painted(fill: str | None, stroke: str | None = None) -> str:
 
 
 def pattern(name: str, role: str, number: int | None) -> str:
-    """A pattern of this name: that of a winner's number, or of lots that are unsold or too many."""
+    """A pattern of this name: the pattern of a winner's number, or of lots that are unsold or too many."""
     line = f'{painted(None, role)} stroke-width="1.3"'
     inner = UNSOLD if number is None else PATTERNS[number]
     drawn = inner.format(line=line, area=painted(role))
@@ -89,8 +89,8 @@ def pattern(name: str, role: str, number: int | None) -> str:
 
 
 def as_picture(key: str, title: str, about: str, size: tuple[int, int] | int, inner: str) -> str:
-    """A picture for a page. A size of width and height is drawn larger or smaller, letters too; where it is a height,
-    places across are in percent, and letters have always one size."""
+    """A picture for a page. A picture with a width and a height scales, and its letters too. If `size` is only a
+    height, places across are in percent, and letters keep their size."""
     if isinstance(size, int):
         shape = f'class="picture fluid" width="100%" height="{size}"'
     else:

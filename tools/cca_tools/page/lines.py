@@ -94,7 +94,7 @@ def answer(line: Line, reply: Reply, source: Source) -> Cell:
 
 
 def place(line: Line) -> Content:
-    """The number of a line, and where it is in an editor where that is another."""
+    """The number of a line, and its row in the file if that is another number."""
     return number(line.number) if line.row == line.number else Cell(number(line.number), f"row {line.row} of the file")
 
 

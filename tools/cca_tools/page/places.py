@@ -1,4 +1,4 @@
-"""Where the winners' lots are in the band of a category, once `cca place` has found that."""
+"""The places of the winners' lots in the band of a category, after `cca place` has found them."""
 
 from __future__ import annotations
 
@@ -17,8 +17,8 @@ from cca_tools.rules.types import BidderNumber
 
 @dataclass(frozen=True)
 class Run:
-    """Lots of a category beside each other: their winner, or 0 if they are unsold, the number of the first lot in the
-    band, how many there are, and what the winner pays for the place."""
+    """Adjacent lots of a category: their winner, or 0 if they are unsold, the number of the first lot in the band, how
+    many there are, and what the winner pays for the place."""
 
     winner: BidderNumber
     first: int
@@ -86,7 +86,7 @@ def read_all(source: Source, placed: Sequence[Sequence[str]]) -> None:
 
 
 def edges(source: Source, c: int, run: Run) -> tuple[Fraction, Fraction] | None:
-    """The frequencies at which a run begins and ends, in MHz, if the names have where the first lot begins."""
+    """The frequencies where a run begins and ends, in MHz; None if the names don't have the start of the first lot."""
     found = source.frequencies(c)
     if found is None:
         return None
@@ -100,7 +100,7 @@ def mhz(frequency: Fraction) -> str:
 
 
 def span(source: Source, c: int, run: Run) -> str:
-    """Where a run is: its frequencies if they are known, or else the numbers of its lots."""
+    """The place of a run: its frequencies if they are known, or else the numbers of its lots."""
     found = edges(source, c, run)
     if found:
         return f"{mhz(found[0])} to {mhz(found[1])} MHz".replace(" ", "\N{NO-BREAK SPACE}")
@@ -108,7 +108,7 @@ def span(source: Source, c: int, run: Run) -> str:
 
 
 def of_winner(source: Source, j: BidderNumber) -> Iterator[str]:
-    """Where a winner's lots of the placed categories are, a text for each category."""
+    """The places of a winner's lots in the placed categories, a text for each category."""
     for c in sorted(source.places):
         for run in source.places[c]:
             if run.winner == j:
@@ -126,7 +126,7 @@ def rows(source: Source, c: int) -> Iterator[list[Content]]:
 
 
 def table(source: Source, c: int) -> Table:
-    """Where the lots of a category are in its band."""
+    """The places of a category's lots in its band."""
     wide = ["Frequencies, MHz #"] if source.frequencies(c) else []
     heads = columns("Winner", "Lots #", *wide, f"Pays for the place{source.unit} #")
     return Table(f"The band of {source.names.categories[c]}", heads, list(rows(source, c)))

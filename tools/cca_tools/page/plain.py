@@ -35,7 +35,7 @@ def columns_of_text() -> int:
 
 
 def cell_lines(cell: Content, width: int) -> list[str]:
-    """The lines of a cell: its words, and after them what it is in the program's form where that has room."""
+    """The lines of a cell: its text, and after it the program's form if there is room."""
     words, code, _ = parts(cell)
     code = f"[{code}]" if words and code else code
     if isinstance(cell, Cell) and cell.details:
@@ -59,8 +59,8 @@ def wrapped(text: str, before: str = "") -> list[str]:
 
 
 def widths_of(table: Table, cells: Sequence[Sequence[Content]]) -> list[int]:
-    """The width of each column: as wide as its widest cell, and the widest columns of words and of names made narrower
-    until all has room."""
+    """The width of each column: as wide as its widest cell, and the widest columns of text and of names are made
+    narrower until the table fits."""
     widths = [
         max([columns_of(column.head), *(length(row[i]) for row in cells)]) for i, column in enumerate(table.columns)
     ]

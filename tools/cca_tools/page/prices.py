@@ -198,7 +198,7 @@ def core_blocks(source: Source) -> list[Block]:
 
 
 def section(source: Source) -> Section | None:
-    """Why these prices, where there are any."""
+    """Why these prices, if there are any."""
     if not source.has_prices or not source.winners:
         return None
     blocks: list[Block] = [

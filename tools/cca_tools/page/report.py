@@ -44,7 +44,7 @@ def foot(source: Source) -> str:
 
 
 def for_all(source: Source, with_program: bool, sheets: Sequence[str]) -> list[Section | None]:
-    """The sections of the report for everybody; `sheets` are files of tables beside it, which it links to."""
+    """The sections of the report for everybody; `sheets` are files of tables in its folder, which it links to."""
     finding = findings.of_award(source) if source.has_prices else ""
     links = [(path, os.path.splitext(os.path.basename(path))[0]) for path in sheets]
     more = [Links("Tables for a spreadsheet (CSV):", links)] if links else []

@@ -56,7 +56,7 @@ def size(award: Award) -> Literal["", "mid"]:
 
 
 def price_scale(award: Award, rounds: Sequence[Round]) -> float | None:
-    """The greatest price in percent of its reserve, where all categories can share a scale, or else None."""
+    """The greatest price in percent of its reserve, if all categories can share a scale, or else None."""
     if not all(award.reserves):
         return None
     most = max(Fraction(price, reserve) for price, reserve in zip(rounds[-1].prices, award.reserves))
@@ -136,7 +136,7 @@ def drawing(
 
 
 def spells(rounds: Sequence[Round], j: BidderNumber) -> list[tuple[int, int, Package, int]]:
-    """The rounds in which a bidder's package and eligibility stayed the same, as first and last round with both."""
+    """The spells of rounds with the same package and eligibility of a bidder, as first and last round with both."""
     found: list[tuple[int, int, Package, int]] = []
     for closed in rounds:
         package, eligibility = closed.packages[j - 1], closed.eligibility[j - 1]

@@ -1,4 +1,4 @@
-"""What is sold, to whom, and by which rules."""
+"""The section about the sale: what is sold, who may bid, and the rules."""
 
 from __future__ import annotations
 
@@ -9,7 +9,7 @@ from cca_tools.page.source import Source, given
 from cca_tools.page.words import Names, count, listed, number
 from cca_tools.rules.award import Award, Step
 
-BESIDE = 8  # bidders whose table is beside the others; of more it has the whole width
+BESIDE = 8  # the most bidders of a table next to the others; with more it has the whole width
 
 
 def categories(source: Source) -> Table:
@@ -35,7 +35,7 @@ def bidders(award: Award, names: Names) -> Table:
 
 
 def steps(award: Award, units: str) -> Table:
-    """From which excess on a price rises by how much."""
+    """The table of the award's steps: how much a price rises from which excess on."""
     rows: list[list[Content]] = []
     followers: list[Step | None] = [*award.steps[1:], None]
     for step, after in zip(award.steps, followers):
@@ -78,7 +78,7 @@ def rules(award: Award, names: Names) -> Iterator[str]:
 
 
 def section(source: Source, for_all: bool = True, more: Sequence[Block] = ()) -> Section:
-    """The sale and its rules; who may bid is shown for all only."""
+    """The sale and its rules. Only the report for everybody shows who may bid."""
     if not source.award:
         bids = f"A book of bids, with {count(given(source.book).bidders, 'bidder')}."
         sold = f"{bids} It has no log, so nothing is shown of rounds and lines."

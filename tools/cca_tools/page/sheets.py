@@ -1,7 +1,8 @@
 """The tables of an auction that is over, as CSV: for a spreadsheet or for a program.
 
 Bidders and categories have their short names. Amounts are in the unit of the award and include reserves, unless a
-column says `net`. A price is exact, as `79+2/3` if no decimal is, and beside it there are its first six decimals.
+column says `net`. A price is exact, for example `79+2/3` if no decimal is, and the next column has its first six
+decimals.
 """
 
 from __future__ import annotations

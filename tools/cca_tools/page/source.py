@@ -1,5 +1,4 @@
-"""Where a report comes from: the files, what the second program makes of them, and what the program says where it is
-there."""
+"""The source of a report: the files, the results of the second program, and what the program says if it is there."""
 
 from __future__ import annotations
 
@@ -54,7 +53,7 @@ class Turn:
 
 @dataclass
 class Sum:
-    """A file: its kind, the name that is shown of it, and its sum (SHA-256)."""
+    """A file: its kind, the name that is shown for it, and its SHA-256."""
 
     kind: str
     name: str
@@ -83,10 +82,10 @@ class Source:
     book: Book | None = None
     certificate: BookCertificate | None = None
     fault: Fault | None = None  # the test that the certificate fails
-    is_given: bool = True  # whether the certificate was given, or was worked out for this report
+    is_given: bool = True  # whether the certificate was given, or was made for this report
     turns: list[Turn] = field(default_factory=list)
     said: str = ""  # the first line of the program about the certificate
-    program: str = ""  # where the program is
+    program: str = ""  # the program's path
     long: LongNames = NO_NAMES  # the names for people, which are in award, auction and book already
     places: dict[int, list[Run]] = field(default_factory=dict)  # of categories that are placed, from 0
 
@@ -146,7 +145,7 @@ class Source:
         return " ".join([*unit, "Amounts include reserves, unless net is said."])
 
     def won(self, j: BidderNumber) -> Bid:
-        """The bid with which a winner wins."""
+        """The winning bid of a winner."""
         return given(self.book).winning(given(self.certificate).choice, j)
 
     def reserve(self, j: BidderNumber) -> Amount:
@@ -162,7 +161,7 @@ class Source:
         return gross_price_of(given(self.certificate).pays(j), self.reserve(j))
 
     def clock_price(self, j: BidderNumber) -> Gross | None:
-        """What a winner's package costs at the final prices of the clock, where there was one."""
+        """What a winner's package costs at the final prices of the clock, if there was a clock."""
         return cost(self.auction.rounds[-1], self.won(j)[0]) if self.auction and self.auction.rounds else None
 
     @functools.cached_property
@@ -288,8 +287,8 @@ def of_book(sums: list[Sum], data: bytes) -> Source:
 
 
 def ask_program(source: Source, book: Book, texts: dict[str, bytes]) -> None:
-    """Has the program price the book turn by turn and test the certificate. Where none was given, the program's own is
-    taken."""
+    """Has the program price the book turn by turn and test the certificate. If none was given, takes the program's
+    own."""
     if not source.program:
         return
     with scratch_folder() as folder:

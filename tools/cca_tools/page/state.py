@@ -1,4 +1,4 @@
-"""Where an auction is that isn't over: what is posted and asked for, and what a close would do."""
+"""The state of an auction that isn't over: what is posted and asked for, and what a close would do."""
 
 from __future__ import annotations
 
@@ -56,7 +56,7 @@ def list_bidders(source: Source) -> Table:
 
 
 def section(source: Source) -> Section | None:
-    """Where the auction is; nothing once it is over."""
+    """The state of the auction; None once it is over."""
     auction = source.auction
     if auction is None or auction.stage == "closed":
         return None

@@ -1,4 +1,4 @@
-"""Marks of pictures: rectangles, lines, letters and what is said of each under the mouse.
+"""Marks of pictures: rectangles, lines, letters, and the text of each under the mouse.
 
 Places are numbers in units of the picture, or percent of its width as text. Colours are roles of `ink`.
 """
@@ -40,7 +40,7 @@ def paint(fill: str | None, stroke: str | None, width: float, dash: str = "") ->
 
 
 class Drawing:
-    """The marks of a picture, in the order in which they are drawn. Names of patterns begin with its key."""
+    """The marks of a picture, in drawing order. Names of patterns begin with its key."""
 
     def __init__(self, key: str) -> None:
         self.key = key
@@ -129,7 +129,7 @@ class Drawing:
         under: str = "",
         is_bold: bool = False,
     ) -> None:
-        """Letters on the line y; where they lie over a pattern they have an edge of this colour."""
+        """Letters on the line y; if they lie over a pattern they have an edge of the colour `under`."""
         parts = [painted(role, under or None), f'font-size="{size:g}"']
         if under:
             parts.append('stroke-width="4" paint-order="stroke" stroke-linejoin="round"')

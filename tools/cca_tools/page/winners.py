@@ -38,7 +38,7 @@ from cca_tools.rules.ties import DECIDES, differences, how_many, ties_of
 from cca_tools.rules.types import Amount, BidderNumber, Net, NetPrice, Package
 
 MOST_SHOWN = 60  # bids that the book shows at once
-MOST_TIES = 5  # other choices of the same net value that are told one by one
+MOST_TIES = 5  # the most other choices of the same net value that are shown one by one
 
 
 def unsold(source: Source) -> Package:
@@ -184,7 +184,7 @@ def bands_card(source: Source) -> Card:
 
 
 def places_blocks(source: Source) -> list[Block]:
-    """Where the lots are in their bands, if that was found."""
+    """The places of the lots in their bands, if they were found."""
     if not source.places:
         return []
     cards = [Card("", [table]) for table in places.tables(source)]
@@ -270,7 +270,7 @@ def paid_key(source: Source) -> Key:
 
 
 def tied(source: Source) -> list[Block]:
-    """The other choices of the same net value, where there are any."""
+    """The other choices of the same net value, if there are any."""
     book_ = given(source.book)
     ties = ties_of(book_, MOST_TIES, given(source.certificate).table)
     if not ties:
@@ -299,7 +299,7 @@ def result(source: Source) -> list[Block]:
 
 
 def missing(source: Source) -> str:
-    """Why there are no winners and no prices."""
+    """The reason for showing no winners and no prices."""
     if source.fault:
         why = findings.capital(source.fault.text())
         return f"The certificate fails a test, so it shows no winners and no prices. {why}."

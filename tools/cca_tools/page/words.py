@@ -64,8 +64,8 @@ def price(value: Amount | Fraction) -> str:
 
 
 def price_cell(value: Amount | Fraction, tone: Tone = "") -> Cell:
-    """A fraction as people write it, rounded to two places if there is no letter for what is left over, and as the
-    program prints it."""
+    """A fraction as people write it, rounded to two places if what is left over isn't a fraction with a letter of its
+    own, and as the program prints it."""
     rest = Fraction(value) % 1
     if not rest:
         return Cell(price(value), tone=tone)
@@ -81,7 +81,7 @@ def result_cell(value: Amount | Fraction) -> Cell:
 
 
 def per_cent(part: Amount | Fraction, whole: Amount | Fraction) -> str:
-    """To one decimal, halves up; a dash if there is no whole."""
+    """The percentage to one decimal, halves up; a dash if the whole is 0."""
     if whole == 0:
         return "\N{EN DASH}"
     tenths = (Fraction(part) * 2000 / whole + 1) // 2

@@ -1,5 +1,5 @@
-"""Best answers over a grid: of what a plan tries of a bidder's strategy, what gives it the most profit while all else
-stays as it is; and the cases in which each bidder whose strategy varies answers best, which are equilibria of the grid.
+"""Best answers over a grid: which of a bidder's strategies in a plan has the most profit while all else stays as it is.
+If each bidder whose strategy varies has its best answer in a case, the case is an equilibrium of the grid.
 """
 
 from __future__ import annotations
@@ -25,7 +25,7 @@ class Tried:
 
 @dataclass(frozen=True)
 class Answer:
-    """What a bidder tries while all else stays as it is, in words, and its best answer of these."""
+    """A bidder's strategies while all else stays as it is, in words, and the best answer among them."""
 
     bidder: str
     others: str
@@ -84,7 +84,7 @@ def profit_of(results: Results, case: Case, number: int, bidder: str) -> Fractio
 
 
 def equilibria_of(results: Results, answers: Sequence[Answer]) -> list[Case]:
-    """The cases in which each bidder whose strategy varies answers best."""
+    """The cases that have a best answer of each bidder whose strategy varies."""
     bidders = searchers_of(results.plan)
     best = {(answer.bidder, answer.best.case) for answer in answers}
     return [case for case in results.plan.cases if bidders and all((bidder, case) in best for bidder in bidders)]

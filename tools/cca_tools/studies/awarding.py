@@ -1,6 +1,6 @@
 """The prices of an auction of a study: the program finds them, and this package tests some of their certificates.
 
-An auction with a clock is an award and a log, which the program takes through its own rules; one of sealed bids alone
+An auction with a clock is an award and a log, which the program takes through its own rules. One with only sealed bids
 is a book.
 """
 
@@ -31,14 +31,14 @@ from cca_tools.studies.rehearsal import held
 from cca_tools.studies.strategies import Strategy
 from cca_tools.studies.values import Values
 
-# The programs of which this process has audited an auction.
+# The programs whose auctions this process has audited.
 audited = set[str]()
 
 
 @dataclass(frozen=True)
 class Held:
-    """An auction that was held: its clock, or None if bids were sealed alone, and its book, None if a limit stopped the
-    clock."""
+    """An auction after it was run: its clock, or None if all bids were sealed, and its book, None if a limit stopped
+    the clock."""
 
     award: Award
     auction: Auction | None
@@ -53,7 +53,7 @@ class Held:
         return self.known
 
     def files(self) -> dict[str, bytes]:
-        """The files of which the program makes prices, by their kinds: an award and a log, or a book."""
+        """The files that the program prices, by their kinds: an award and a log, or a book."""
         if self.auction is None:
             return {"book": book_text(self.book)}
         return {"award": award_text(self.award).encode(), "log": log_text(self.auction)}

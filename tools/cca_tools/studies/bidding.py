@@ -24,7 +24,7 @@ from cca_tools.rules.types import Amount, BidderNumber, Gross, Package, Prices
 from cca_tools.studies.strategies import Strategy
 from cca_tools.studies.values import Values
 
-MANY = 100  # so many packages are faster with numpy
+MANY = 100  # from this many packages on numpy is faster
 WIDE = 2**62  # values below it are within 64 bits, and so are costs
 
 
@@ -88,7 +88,7 @@ def wanted_list(
     award: Award, values: Values, strategy: Strategy, clock: Mapping[Package, Gross], prices: Prices
 ) -> dict[Package, Gross]:
     """What a bidder lists before it looks at its caps, in the order of packages, after it asked for what `clock` has;
-    the most profitable at these prices if there is no room for all."""
+    the most profitable at these prices if not all have room."""
     most = Gross(MOST["amount"])
     named = {package: max(strategy.named(value), clock.get(package, Gross(0))) for package, value in values.items()}
     listed = {package: min(amount, most) for package, amount in named.items() if amount >= award.reserve_of(package)}
@@ -109,6 +109,7 @@ def sealed_list(auction: Auction, j: BidderNumber, values: Values, strategy: Str
 
 
 def sealed_book(award: Award, values: Sequence[Values], strategies: Sequence[Strategy]) -> Book:
-    """The book of an auction of sealed bids alone, without a clock: each bidder lists its packages, and has no caps."""
+    """The book of an auction with only sealed bids, without a clock: each bidder lists its packages, and has no
+    caps."""
     lists = [wanted_list(award, *of_one, {}, award.reserves) for of_one in zip(values, strategies)]
     return Book(award.supply, award.reserves, list(award.names), [list(listed.items()) for listed in lists])

@@ -19,7 +19,7 @@ class Fields:
     """A table: fields are taken from it, and then none may be left."""
 
     def __init__(self, kind: str, where: str, members: object) -> None:
-        """`kind` is that of the file, `where` the table in words, "" for the top."""
+        """`kind` is the kind of the file, and `where` the table in words, "" for the top."""
         self.kind, self.where = kind, where
         if not isinstance(members, dict):
             self.stop("a table has to be here")
@@ -48,7 +48,7 @@ class Fields:
         return name in self.members
 
     def text(self, name: str, choices: Sequence[str] = (), default: object = MISSING) -> str:
-        """A text, one of these where there are any."""
+        """A text; one of the choices if there are any."""
         value = self.take(name, default)
         rule = f"one of {', '.join(choices)}" if choices else "a text"
         self.need(isinstance(value, str) and (not choices or value in choices), name, rule)
@@ -71,7 +71,7 @@ class Fields:
         return value
 
     def wholes(self, name: str, low: int, high: int, count: int | None = None, default: object = MISSING) -> list[int]:
-        """A list of whole numbers of this range, this many where that is given; a single number is a list of one."""
+        """A list of whole numbers of this range, `count` of them if it is given; a single number is a list of one."""
         value = self.take(name, default)
         value = value if isinstance(value, list) else [value]
         right = all(is_whole(it, low, high) for it in value) and (len(value) == count if count else bool(value))
@@ -102,7 +102,7 @@ class Fields:
         return [Fields(self.kind, f"{inside}table {at} of [[{name}]]", it) for at, it in enumerate(value, 1)]
 
     def no_more(self) -> None:
-        """Stops at the first key that is no field."""
+        """Stops at the first key that isn't a field."""
         if self.left:
             self.stop(f"the key `{clipped(self.left[0])}` isn't known here")
 

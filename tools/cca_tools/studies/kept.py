@@ -16,8 +16,8 @@ AUCTIONS = "auctions"
 
 
 def keep_auction(store: Store, number: int) -> Iterator[str]:
-    """Holds an auction again in each case, and writes its files into folders of the study; says which they are and how
-    they are audited. A `Stop` of status 70 if a row of the study is another one, and of status 7 if an auction is
+    """Runs an auction again in each case, and writes its files into folders of the study. Yields lines about the files
+    and how to audit them. A `Stop` of status 70 if a row of the study is another one, and of status 7 if an auction is
     beyond a limit."""
     for at, case in enumerate(store.plan.cases):
         folder = store.folder / AUCTIONS / str(number) / str(at + 1)

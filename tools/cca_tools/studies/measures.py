@@ -23,8 +23,8 @@ NORMAL = statistics.NormalDist().inv_cdf(0.975)
 @dataclass(frozen=True)
 class Spread:
     """A measure over auctions: how many, the mean with its standard error, which one auction doesn't have, and the
-    values below which 5, 25, 50, 75 and 95 percent of them are. `share` is how many auctions have what is counted, if
-    the measure is a share of them."""
+    values below which 5, 25, 50, 75 and 95 percent of them are. `share` is how many auctions have the property, if the
+    measure is the share of auctions with a property."""
 
     count: int
     mean: float
@@ -176,7 +176,7 @@ class Results:
 
 @dataclass(frozen=True)
 class Pair:
-    """Two cases that differ in one field, in which the second has the next value."""
+    """Two cases that differ in one field; the second has the next value of it."""
 
     field: str
     first: Case

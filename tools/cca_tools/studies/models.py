@@ -1,6 +1,6 @@
 """Models of what packages are worth to a bidder, in the award's unit. All values are whole numbers, rounded down.
 
-A model is what a file of values says; with draws it gives a valuation, a function from packages to values.
+A model is what a file of values says; with draws it makes a valuation, a function from packages to values.
 """
 
 from __future__ import annotations
@@ -74,8 +74,8 @@ class Additive(Valuation):
 
 @dataclass(frozen=True)
 class AdditiveModel(Model):
-    """`additive`: each lot of a category has a value in the category's range, the greatest first. With `decrease` the
-    first lot alone is drawn, and each further one is worth a given percentage less than the one before."""
+    """`additive`: each lot of a category has a value in the category's range, the greatest first. With `decrease` only
+    the first lot is drawn, and each further one is worth a given percentage less than the one before."""
 
     supply: Package
     lot: tuple[Range, ...]
@@ -132,9 +132,10 @@ class GlobalModel(Model):
 
 
 def local_factor(a: int, b: int, lots: int) -> int:
-    """By how many millionths a group of this many lots is worth: 1 + a / (100 (1 + e^(b - lots))), rounded down.
+    """The factor of the worth of a group of this many lots, in millionths: 1 + a / (100 (1 + e^(b - lots))), rounded
+    down.
 
-    The exponential is that of Decimal, which rounds rightly, so it is the same on every machine.
+    The exponential is Decimal's. It is correctly rounded, so it is the same on every machine.
     """
     with localcontext() as context:
         context.prec = 40
@@ -162,7 +163,7 @@ class Local(Valuation):
 
 
 def groups_of(wanted: Sequence[int], neighbours: Pairs) -> list[set[int]]:
-    """The categories in groups that neighbours hold together."""
+    """The categories in groups that neighbours connect."""
     groups: list[set[int]] = []
     for c in wanted:
         near = [group for group in groups if any((min(c, d), max(c, d)) in neighbours for d in group)]
@@ -173,7 +174,7 @@ def groups_of(wanted: Sequence[int], neighbours: Pairs) -> list[set[int]]:
 @dataclass(frozen=True)
 class LocalModel(Model):
     """`local`, in the manner of the Local Synergy Value Model: the lots of a category are neighbours of each other, and
-    those of neighbouring categories too."""
+    so are the lots of neighbouring categories."""
 
     lot: tuple[Range, ...]
     a: int
@@ -227,7 +228,7 @@ def read_additive(table: Fields, supply: Package, names: Sequence[str]) -> Model
 
 
 def read_most(table: Fields, supply: Package) -> int:
-    """The greatest number of lots of a package that is worth something; where it isn't given, all."""
+    """The greatest number of lots of a package that is worth something; all lots if it isn't given."""
     return table.whole("most", 1, sum(supply), sum(supply))
 
 
@@ -238,7 +239,7 @@ def read_global(table: Fields, supply: Package, names: Sequence[str]) -> Model:
 
 
 def read_local(table: Fields, supply: Package, names: Sequence[str]) -> Model:
-    """A model `local`; where no neighbours are given each category is one of the next."""
+    """A model `local`. If no neighbours are given, each category is a neighbour of the next."""
     lot, a, b = tuple(table.ranges("lot", len(supply))), table.whole("a", 0, 10_000, 320), table.whole("b", 0, 100, 10)
     neighbours = frozenset(zip(range(len(supply)), range(1, len(supply))))
     if table.has("neighbours"):

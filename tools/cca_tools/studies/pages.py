@@ -66,7 +66,7 @@ def left_out(results: Results) -> Iterator[Block]:
 
 
 def means_of(name: str) -> str:
-    """What a field is, or a part of a bidder's strategy, as `elm_share`."""
+    """The meaning of a field, or of a part of a bidder's strategy such as `elm_share`."""
     bidder, _, part = name.rpartition("_")
     return MEANS[name] if name in MEANS else PART_MEANS[part].format(bidder)
 
@@ -200,7 +200,7 @@ def others(results: Results, pair: Pair) -> str:
 
 
 def difference_bars(results: Results, pair: Pair) -> list[Bar]:
-    """The differences of a pair; bidders that are in both cases alone."""
+    """The differences of a pair; only bidders in both cases."""
     names = [bidder.name for bidder in results.plan.base().bidders][: min(pair.first.bidders, pair.second.bidders)]
     spreads: list[tuple[str, Spread]] = [
         (name, results.difference(pair, measure)) for name, measure in measures_of(names).items()
@@ -282,7 +282,7 @@ ANSWERS = (
 
 
 def answer_table(answer: Answer) -> Table:
-    """What a bidder tries, and what it gains."""
+    """The strategies of a bidder with their profits, and how much less each is than the best answer's."""
     rows: list[list[Content]] = [
         [f"{it.label}, best" if it is answer.best else it.label, minus(it.profit.words()), minus(it.gain.words())]
         for it in answer.tried

@@ -12,14 +12,14 @@ from cca_tools.page.svg import Drawing, width_of
 from cca_tools.page.words import minus
 from cca_tools.studies.measures import Spread
 
-# The room at both sides for the numbers of the axis; how high a bar is with its words, a head, and the axis.
+# The room at both sides for the numbers of the axis; the heights of a bar with its text, of a head, and of the axis.
 SIDE, ROW, HEAD, FOOT = 14, 40, 24, 44
 # A row of a picture: its name, its spread, and the roles of the box's colour and of its edge's.
 Bar: TypeAlias = tuple[str, Spread, tuple[str, str]]
 COLOURS = {"core": ("bluish", "blue"), "Vickrey": ("orangish", "orange"), "pay as bid": ("greenish", "green")}
 ABOVE, BELOW, EVEN = ("greenish", "green"), ("orangish", "orange"), ("bluish", "blue")
 
-# What the marks mean, below a picture that stands alone.
+# What the marks mean, below a picture in a file of its own.
 KEY = (
     "line: from 5 % to 95 % of the auctions",
     "box: from 25 % to 75 %, with the median",
@@ -33,12 +33,12 @@ def is_even(spread: Spread) -> bool:
 
 
 def colour_of(spread: Spread) -> tuple[str, str]:
-    """The colours of a difference: by its mean, where that is more than two standard errors from 0."""
+    """The colours of a difference: by its mean, if that is more than two standard errors from 0."""
     return EVEN if is_even(spread) else ABOVE if spread.mean > 0 else BELOW
 
 
 class Scale:
-    """Where a value is across the picture, for all values of some spreads."""
+    """The scale from values to places across the picture, with room for all values of some spreads."""
 
     def __init__(self, spreads: Sequence[Spread], has_zero: bool) -> None:
         values = [value for it in spreads for value in (*it.quantiles, it.mean)] + ([0.0] if has_zero else [])
@@ -86,7 +86,7 @@ def draw_axis(drawing: Drawing, scale: Scale, y: float, what: str) -> None:
 
 
 def draw_zero(drawing: Drawing, scale: Scale, rows: Sequence[float]) -> None:
-    """The line at 0, in the row of each bar, so that it crosses no words."""
+    """The line at 0, in the row of each bar, so that it crosses no text."""
     for y in rows:
         drawing.line(scale.place(0), y - 11, scale.place(0), y + 11, "soft", 1)
 
@@ -101,7 +101,7 @@ def bars(
     is_file: bool = False,
 ) -> str:
     """Groups of bars one below the other, each with its name and its mean above it, and each group with its name; with
-    a line at 0 where these are differences."""
+    a line at 0 if these are differences."""
     scale = Scale([spread for _, of_one in groups for _, spread, _ in of_one], line)
     drawing, top = Drawing(key), 0.0
     for name, of_one in groups:

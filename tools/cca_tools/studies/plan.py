@@ -27,7 +27,7 @@ OWN = {"shares": "share", "shades": "shade", "budgets": "budget"}
 
 @dataclass(frozen=True)
 class Case:
-    """One way to hold the auctions of a study."""
+    """One way to run the auctions of a study."""
 
     values: str  # the name of the file of values
     version: int  # of the award: 1 without the final cap, 2 with it
@@ -35,8 +35,8 @@ class Case:
     share: int  # what bidders name of their values in the sealed round, in percent, if nothing else says it
     bidders: int  # the first ones of the award
     reserve: int  # the award's reserves, in percent of them
-    format: str = "clock"  # or sealed: sealed bids alone
-    own: tuple[tuple[str, int], ...] = ()  # parts of bidders' strategies, as `elm_share`
+    format: str = "clock"  # or sealed: only sealed bids
+    own: tuple[tuple[str, int], ...] = ()  # parts of bidders' strategies, such as `elm_share`
 
     def get(self, name: str) -> str | int:
         """The value of a field, or of a part of a bidder's strategy."""
@@ -53,7 +53,7 @@ class Case:
         return found
 
 
-# The fields of a case, in order, without those of bidders.
+# The fields of a case, in order, without the fields of bidders.
 FIELDS = tuple(name for name in Case.__dataclass_fields__ if name != "own")
 
 
@@ -68,7 +68,7 @@ class Plan:
     cases: tuple[Case, ...]
     text: bytes = b""
     award_name: str = "award"
-    references: tuple[Reference, ...] = ()  # points to which prices are nearest, beside the Vickrey prices
+    references: tuple[Reference, ...] = ()  # points of reference for nearest prices, besides the Vickrey prices
     weights: tuple[tuple[str, int], ...] = ()  # of bidders, 1 for all others; none if prices aren't weighted too
 
     def files(self) -> dict[str, bytes]:
@@ -89,12 +89,12 @@ class Plan:
 
     @property
     def varied(self) -> tuple[str, ...]:
-        """The fields in which the cases differ."""
+        """The fields that differ between cases."""
         return tuple(name for name in self.fields if len({case.get(name) for case in self.cases}) > 1)
 
     @property
     def rules(self) -> tuple[str, ...]:
-        """The rules of prices beside the program's: a point of reference, or weights."""
+        """The rules of prices in addition to the program's: a point of reference, or weights."""
         return (*self.references, *(["weighted"] if self.weights else []))
 
     def label(self, case: Case) -> str:

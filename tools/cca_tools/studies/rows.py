@@ -1,8 +1,8 @@
 """One auction of a study, as a row of its table.
 
-Bidders hold it by their values and strategies, the program awards it, and the row has what came out beside what could
-have been. Of every hundredth auction, and of the first one of each process, the certificate is tested by the rules of
-this package, as tools/audit does.
+Bidders act by their values and strategies, and the program awards the auction. The row has the result together with the
+best possible one. Of every hundredth auction, and of the first one of each process, the certificate is tested by the
+rules of this package, as tools/audit does.
 """
 
 from __future__ import annotations
@@ -53,7 +53,7 @@ def each_of(plan: Plan) -> list[str]:
 
 
 def common_of(plan: Plan) -> list[str]:
-    """The columns of an auction, without those of its bidders and of what made it."""
+    """The columns of an auction, without the columns of its bidders and of what made it."""
     categories = [it.name for it in plan.base().categories]
     clock = [f"clock_{what}_{name}" for name in categories for what in ("price", "excess")]
     rules = [f"{what}_{rule}" for rule in plan.rules for what in ("core", "found_by")]
@@ -75,7 +75,7 @@ def terms_of(plan: Plan, case: Case) -> tuple[Award, list[BidderModel]]:
 
 @dataclass(frozen=True)
 class Drawn:
-    """An auction of a plan that was held: its values, its strategies, and how it went."""
+    """An auction of a plan after it was run: its values, its strategies, and how it went."""
 
     seed: int
     values: Sequence[Values]
@@ -157,8 +157,8 @@ def clock_cells(held: Held) -> Row:
 
 
 def priced_cells(drawn: Drawn, prices: Prices, others: Others) -> Row:
-    """The cells of what came out, for the whole auction and for each bidder. Prices by `cca win` are Vickrey prices
-    alone, and the cells of the core are empty."""
+    """The cells of what came out, for the whole auction and for each bidder. If `cca win` found the prices, they are
+    only Vickrey prices, and the cells of the core are empty."""
     row = outcome(drawn.held, drawn.values, prices)
     for rule, found in others.items():
         if isinstance(found, str):
@@ -240,7 +240,7 @@ def long_rows(plan: Plan, row: Row) -> Iterator[Row]:
 
 @dataclass(frozen=True)
 class Job:
-    """An auction that is to be held: its number, and that of its case from 0."""
+    """An auction that is to be run: its number, and its case's number from 0."""
 
     case: int
     number: int
@@ -259,7 +259,7 @@ class Done:
 
 def rows_of(plan: Plan, jobs: Sequence[Job], program: str | None) -> list[Done]:
     """The rows of some auctions. The program is the one at this path, unless CCA_PROGRAM names another one here. After
-    a stop no more auctions are held."""
+    a stop no more auctions are run."""
     if program and not os.environ.get("CCA_PROGRAM"):
         os.environ["CCA_PROGRAM"] = program
     made, total = list[Done](), ""

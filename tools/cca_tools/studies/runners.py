@@ -1,4 +1,4 @@
-"""Who holds the auctions of a study: processes of this machine, or the workers of Dask. The rows are the same."""
+"""What runs the auctions of a study: processes of this machine, or the workers of Dask. The rows are the same."""
 
 from __future__ import annotations
 
@@ -23,7 +23,7 @@ from cca_tools.studies.rows import Done, Job, rows_of
 
 PACKAGE = pathlib.Path(__file__).resolve().parents[1]
 LARGEST, TRIES, POLL = 10, 20, 1.0
-WAIT = 10.0  # seconds after which it is said that there are no workers
+WAIT = 10.0  # seconds until a report that the scheduler has no workers
 NO_DASK = (
     "this Python has no Dask: apt-get install python3-distributed, then /usr/bin/python3 tools/study .. --scheduler .."
 )
@@ -104,7 +104,7 @@ def is_of_worker(done: Done, total: str) -> bool:
 
 
 def fault_of(done: Done, total: str) -> str:
-    """Why a worker can't hold an auction."""
+    """Why a worker can't run an auction."""
     if done.stop:
         return done.stop[2]
     return f"its program has the SHA-256 {done.program}, and that of this study {total}"
@@ -154,7 +154,7 @@ class Workers:
 
 
 def watch_workers(workers: Workers, address: str, end: threading.Event) -> None:
-    """Says once that there are no workers, and then that there are."""
+    """Reports once that the scheduler has no workers, and then that it has some."""
     is_empty = False
     while not end.is_set():
         try:

@@ -1,6 +1,6 @@
-"""Slips of bidders, mixed into the lines of an auction: lines as people send them by mistake. All of them are refused
-but one kind: a draft with a digit too many is taken, its submission refused, and the right draft follows. So slips
-change no result."""
+"""Mistakes of bidders, mixed into the lines of an auction: lines as people send them by mistake. All of them are
+refused but one kind: a draft with a digit too many is taken, its submission refused, and the right draft follows. So
+mistakes change no result."""
 
 from __future__ import annotations
 
@@ -14,7 +14,7 @@ from cca_tools.rules.sealed import caps_of
 from cca_tools.rules.stops import MOST
 from cca_tools.studies.draws import Draws
 
-# What a bidder sends by mistake instead of a line: one line or several, or none if the slip can't be made here.
+# What a bidder sends by mistake instead of a line: one line or several, or none if the mistake can't be made here.
 Slip = Callable[[Auction, Line, Draws], Sequence[Line]]
 
 
@@ -89,7 +89,7 @@ SLIPS: tuple[Slip, ...] = (
 
 
 def slip_before(auction: Auction, line: Line, draws: Draws) -> Sequence[Line]:
-    """A slip before a line that is right: the first, from a drawn one on, that can be made here and is refused."""
+    """A mistake before a line that is right: the first, from a drawn one on, that can be made here and is refused."""
     first = draws.of("kind").whole(0, len(SLIPS) - 1)
     for make in SLIPS[first:] + SLIPS[:first]:
         made = make(auction, line, draws.of("part"))
@@ -99,15 +99,15 @@ def slip_before(auction: Auction, line: Line, draws: Draws) -> Sequence[Line]:
 
 
 def places_of(lines: Iterable[Line], count: int, draws: Draws) -> list[int]:
-    """Before which of the lines that aren't closes the slips come, by their places from 0; of several at one place each
-    is there."""
+    """The places of the mistakes: each comes before a line that isn't a close, and the place is that line's number from
+    0 among such lines. A place with several mistakes comes several times."""
     last = sum(line.kind != "close" for line in lines) - 1
     return sorted(draws.of("place", n).whole(0, last) for n in range(1, count + 1)) if last >= 0 else []
 
 
 def slipping(auction: Auction, lines: Iterable[Line], places: list[int], draws: Draws, at: int = 0) -> Iterator[Line]:
-    """The lines with slips before those at these places, the first line's being `at`. Each line has to be taken before
-    the next one is asked for."""
+    """The lines, with mistakes before the lines at these places; the place of the first line is `at`. Each line has to
+    be taken before the next one is asked for."""
     for line in lines:
         if line.kind != "close":
             for n in range(places.count(at)):

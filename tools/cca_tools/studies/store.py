@@ -1,4 +1,4 @@
-"""The folder of a study: rows are kept as they come, so that a study goes on where it was stopped."""
+"""The folder of a study: rows are kept as they come, so that a study that was stopped can go on."""
 
 from __future__ import annotations
 
@@ -70,8 +70,8 @@ class Store:
         (self.folder / ROWS).write_bytes(bytes_of(self.origin.members()))
 
     def read(self) -> None:
-        """Reads the rows that are there. A line that isn't whole, as the last one of a run that was stopped, is left
-        out, and its auction is held again."""
+        """Reads the rows that exist. A line that isn't whole, such as the last one of a run that was stopped, is left
+        out, and its auction is run again."""
         path = self.folder / ROWS
         if not path.exists():
             return
@@ -115,7 +115,7 @@ class Store:
             raise self.unwritten(fault) from None
 
     def left(self) -> list[Job]:
-        """The auctions of which there is no row yet, in order: the first auctions of all cases come first."""
+        """The auctions that have no row yet, in order: the first auctions of all cases come first."""
         every = (Job(case, n) for n in range(1, self.plan.auctions + 1) for case in range(len(self.plan.cases)))
         return [job for job in every if job not in self.rows]
 
@@ -125,7 +125,7 @@ class Store:
         return [self.rows[Job(case, n)] for case in range(len(self.plan.cases)) for n in count]
 
     def write(self, name: str, text: str) -> str:
-        """Writes a file of the folder, and gives its path."""
+        """Writes a file of the folder, and returns its path."""
         path = self.folder / name
         try:
             replace(path, text.encode("utf-8"))
@@ -184,7 +184,7 @@ def made_cells(store: Store) -> Row:
 
 
 def table_text(store: Store, mark: Mark = ".") -> str:
-    """The table of a study, of which each row names what made it."""
+    """The table of a study. Each row names what made it."""
     made = made_cells(store)
     return csv_table(store.columns, (cells_of(store.columns, row, made) for row in store.table()), mark)
 

@@ -1,5 +1,5 @@
-"""How each bidder bids, as a file of values has it: `share`, `shade` and `budget`, each a number or a range in which
-one is drawn."""
+"""How each bidder bids, as a file of values has it: `share`, `shade` and `budget`, each a number or a range that one is
+drawn from."""
 
 from __future__ import annotations
 
@@ -18,7 +18,7 @@ PARTS: dict[str, Range] = {"share": (1, 1_000), "shade": (0, MOST_VALUE), "budge
 @dataclass(frozen=True)
 class Strategy:
     """What a bidder names of each value in the sealed round: `share` percent of it less `shade`, and never more than
-    `budget`, which limits it in the clock too (None is no limit). With `fit` its entries are lowered to their caps."""
+    `budget`, which limits it in the clock too (None for no limit). With `fit` its entries are lowered to their caps."""
 
     share: int = PERCENT
     shade: Amount = 0
@@ -45,8 +45,7 @@ class StrategyModel:
     ranges: tuple[tuple[str, Range], ...] = ()
 
     def drawn(self, draws: Draws, base: Strategy, fixed: Mapping[str, int]) -> Strategy:
-        """A bidder's strategy: its parts are those of `fixed`, then those that the file states, then those of
-        `base`."""
+        """A bidder's strategy: each part is from `fixed` if it is there, else from the file, else from `base`."""
         parts = {part: draws.of(part).whole(*ends) for part, ends in self.ranges} | dict(fixed)
         budget = Gross(parts["budget"]) if "budget" in parts else base.budget
         return Strategy(parts.get("share", base.share), parts.get("shade", base.shade), budget, base.fit)

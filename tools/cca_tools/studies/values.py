@@ -71,7 +71,7 @@ def values_of(award: Award, j: BidderNumber, valuation: Valuation) -> Values:
 
 
 def drawn_values(award: Award, models: Sequence[BidderModel], draws: Draws) -> list[Values]:
-    """The values of each bidder of the award; those of a bidder depend on its name, and on no other bidder."""
+    """The values of each bidder of the award; a bidder's values depend on its name, and not on other bidders."""
     valuations = [it.model.drawn(draws.of(name)) for name, it in zip(award.names, models)]
     return [values_of(award, j, valuation) for j, valuation in enumerate(valuations, 1)]
 
@@ -83,8 +83,8 @@ def drawn_strategies(
     base: Strategy = Strategy(),
     fixed: Mapping[str, Mapping[str, int]] | None = None,
 ) -> list[Strategy]:
-    """The strategy of each bidder of the award. `fixed` has parts that are set for bidders by their names, and `base`
-    those that neither `fixed` nor the file states."""
+    """The strategy of each bidder of the award. `fixed` has parts that are set for bidders by their names. `base` has
+    the parts that aren't in `fixed` or the file."""
     known = fixed or {}
     return [
         it.strategy.drawn(draws.of(name, "strategy"), base, known.get(name, {}))
