@@ -37,7 +37,7 @@ if typing.TYPE_CHECKING:
 HAS_ALL = all(map(importlib.util.find_spec, ("flask", "waitress"))) and bool(PROGRAM)
 WHY = "flask and waitress aren't installed, or CCA_PROGRAM names no program"
 PORT = 18400
-# What each form may have beside the fields that are asked for.
+# The fields that a form may have in addition to the required ones.
 OPTIONAL = {"record", "mend", "count", "good", "says", "whole", "submit"}
 Fields: typing.TypeAlias = dict[str, str]
 File: typing.TypeAlias = tuple[io.BytesIO, str]  # its bytes and its name
@@ -111,7 +111,7 @@ class Answer:
 
     @property
     def location(self) -> str:
-        """The page to which the browser is sent on."""
+        """The page that the browser is redirected to."""
         place: str = self.headers["Location"]
         return place
 
@@ -163,7 +163,7 @@ class Client:
         return self.answer
 
     def follow(self, said: str) -> Answer:
-        """Loads the page to which the link leads that begins with these words."""
+        """Loads the page of the link whose text begins with `said`."""
         return self.load(matched(f'href="([^"]+)">{re.escape(said)}', self.page)[1])
 
     def form(self, action: str, *names: str) -> Fields:

@@ -20,7 +20,7 @@ class Attacks(unittest.TestCase):
         cls.day = told(honest())
 
     def test_the_day(self) -> None:
-        """Nothing is found of the files as they are, and the day has the events that it is told with."""
+        """Nothing is found in the unchanged files, and the day has the events of its description."""
         self.assertEqual(found(self.day, self.day), attacks.Found("yes", "yes", ()))
         self.assertEqual(
             [it.event for it in read_posted(self.day.posted)],
@@ -44,7 +44,7 @@ class Attacks(unittest.TestCase):
         self.assertIn("NOT of these files", note_of(other, self.day.posted.decode()))
 
     def test_another_program(self) -> None:
-        """What the journal said of the program on the day is in the set, and can't be told otherwise afterwards."""
+        """What the journal said about the program on the day is in the set, and can't be changed afterwards."""
         unproved = told(honest(), about={**attacks.PROGRAM, "program": "NOT PROVED: it has no mark"})
         proved = told(honest())
         self.assertEqual(attacks.foreign_of(unproved, proved), attacks.LINES)
@@ -113,7 +113,7 @@ class OfABidder(unittest.TestCase):
             self.assertRegex(note_of(self.day, other.text()), r"\Ano\n.*NOT of these files: the seal is the one of")
 
     def test_a_foreign_line(self) -> None:
-        """The line of another day, and one that is made by the published key, are those of no line of these files."""
+        """The line of another day, and one that is made by the published key, aren't in these files."""
         other = told(honest(), key=KEY.replace(b"0", b"f"))
         made = Sealer(KEY, sum_of(AWARD)).row(
             Event("close", 3, len(LOG)), self.rows[6].time, LOG, "0" * 64, self.day.posted
@@ -122,7 +122,7 @@ class OfABidder(unittest.TestCase):
             self.assertRegex(note_of(self.day, text), r"\Ano\n.*NOT of these files: no posted line has this seal")
 
     def test_what_is_posted_before_the_end_tells_no_bid(self) -> None:
-        """Days that differ in bids alone, or in how many lines came, have the same posted lines but for seals."""
+        """Days that differ only in bids, or in how many lines came, have the same posted lines except for seals."""
         days = [told(it[:4]) for it in (honest(), honest(with_bid(LOG)))]
         extra = honest()[:4]
         extra[2] = Step(b"bid,tarn,1 0 0 0,\n" + extra[2].text, minute=3)

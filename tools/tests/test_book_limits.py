@@ -1,4 +1,4 @@
-"""What tools/book says of a table that is beyond a limit in one dimension."""
+"""What tools/book says about a table that is beyond a limit in one dimension."""
 
 from __future__ import annotations
 

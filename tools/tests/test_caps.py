@@ -25,7 +25,7 @@ def spectrum(records: int, *words: str) -> str:
 
 class Clock(unittest.TestCase):
     def test_points_and_room(self) -> None:
-        """In round 1 everest has 80 points, holds 2 lots of a800 and asks for 48 points."""
+        """In round 1 everest has 80 points, owns 2 lots of a800 and asks for 48 points."""
         rows = spectrum(5, "everest").splitlines()
         self.assertEqual(rows[0], "everest round 1 open asks for 2 0 4 0 eligible 80 points 48 left 32")
         self.assertEqual(rows[1:3], ["spectrum cap 1 room 3 of 11", "spectrum cap 2 room 26 of 42"])
@@ -36,7 +36,7 @@ class Clock(unittest.TestCase):
         self.assertEqual(rows[3], "package 3 1 0 0 points 100 costs 850000 refused points 96")
 
     def test_a_package_beside_what_is_asked_for(self) -> None:
-        """east asks for one lot at 12 in round 2, for which it is eligible for three: three would cost 24 more."""
+        """east asks for one lot at 12 in round 2, where it is eligible for three: three would cost 24 more."""
         rows = asked(SMALL.encode(), lines(HEAD + "bid,east,1,"), "east", "3")[0].splitlines()
         self.assertEqual(rows[1], "package 3 points 3 costs 36 left 0")
         self.assertEqual(rows[2], "  if the clock ended now: round 2 held 1 stands 12 prices 12 cap 36")
@@ -55,7 +55,7 @@ class Clock(unittest.TestCase):
                 )
 
     def test_the_cap_that_comes(self) -> None:
-        """On drawn auctions the cap as if the clock ended now is that of the log in which it ends now."""
+        """On drawn auctions the cap as if the clock ended now is the cap by the log that ends it now."""
         many = 0
         for number in range(40):
             drawing = Drawing(number, 1 + number % 2)
@@ -109,7 +109,7 @@ class Fit(unittest.TestCase):
         self.assertTrue(all(count > 10 for count in seen.values()), seen)
 
     def check(self, drawing: Drawing, j: int, seen: dict[str, int]) -> None:
-        """Follows the lines that are printed, then tries each entry that was lowered."""
+        """Follows the lines that are printed, then tests each entry that was lowered."""
         name, wanted = drawing.award.names[j - 1], dict(drawing.auction.drafts(j))
         text, status = asked(drawing.text.encode(), drawing.log(), name, "--fit")
         self.assertEqual(status, 0)

@@ -9,7 +9,7 @@ from collections.abc import Sequence
 BOOK, CERT, WEIGHTS = sample("day-cramton.book"), sample("day-cramton.cert"), sample("day-cramton.weights")
 YES = "yes\nwinner b1 1 0 bid 28 vickrey 14 pays 17\nwinner b2 0 1 bid 20 vickrey 12 pays 15\nnet 48\nrevenue 32"
 
-# What is changed in the certificate of Day and Cramton, at its first place, and what has to be said of it.
+# What is changed in the certificate of Day and Cramton, at its first place, and the line that has to be printed for it.
 EDITS = [
     ("den 1", "den 0", "no C1 1"),
     ("value 48", "value -1", "no C1 2"),
@@ -295,7 +295,7 @@ class Faults(unittest.TestCase):
         )
 
     def test_sentences_of_each_test(self) -> None:
-        """Who, what was found, and what has to be. The numbers are those of the example of README."""
+        """Who, what was found, and what has to be. The numbers are from the example in README."""
         rows = [
             ("den 1", "den 0", "the denominator is 0, and has to be at least 1"),
             ("value 48", "value -1", "the value is -1, and has to be at least 0"),

@@ -1,4 +1,5 @@
-"""The court's own files, tools/audit and tools/check: beside the rules and the program on drawn cases, and alone."""
+"""The court's own files, tools/audit and tools/check: compared with the rules and the program on drawn cases, and
+without the other files."""
 import ast
 import collections
 import itertools

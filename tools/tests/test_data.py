@@ -181,7 +181,7 @@ class Bids(unittest.TestCase):
         self.assertIn("Row 1 asks for 9 lots of category 1, and 2 are sold.", said)
 
     def test_as_values(self) -> None:
-        """A table is what bidders value their packages at, once its names are those of an award."""
+        """A table is what bidders value their packages at, once its names are the award's."""
         award = read_award(ONE)
         printed, status, said = run("book", "-", "--supply", "2 2", "--as", "values", input="Wést,1,0,9\neast,0,2,5\n")
         east, west = values_of_seed(award, printed.encode(), 1)
@@ -275,7 +275,7 @@ class Prices(unittest.TestCase):
 
         def book(
             package: Package = (1,),
-            amount: Any = 5,  # (also what is no amount)
+            amount: Any = 5,  # (also values that aren't amounts)
             names: Sequence[str] = ("a",),
             supply: Package = (2,),
             reserves: Package = (1,),

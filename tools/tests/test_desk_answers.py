@@ -34,7 +34,7 @@ SEALED = CLOCK + lines("close,,, / draft,east,2 0,40 / draft,east,1 0,30 / draft
 
 
 def state_of(auction: Auction) -> tuple[object, ...]:
-    """All that an auction has come to."""
+    """The whole state of an auction."""
     rounds = [*auction.rounds, *([auction.open_round] if auction.open_round else [])]
     desks = [(desk.drafts, desk.submitted, desk.highest_in_clock) for desk in auction.desks]
     return auction.stage, auction.final, auction.lines, auction.replies, rounds, desks
@@ -76,7 +76,7 @@ class Alike(Case):
             self.assertEqual(state_of(both.auction(data)), state_of(by_rules(both.award, data)))
 
     def test_drawn_auctions_line_by_line(self) -> None:
-        """Each line is answered from the log before it, and comes to what the whole log comes to."""
+        """Each line gets its reply from the log before it, and the result is the same as from the whole log."""
         drawing = Drawing(4)
         drawing.clock()
         both, data = self.answers(drawing.text.encode()), b""
@@ -116,7 +116,7 @@ class Alike(Case):
             self.assertEqual(both.auction(CLOCK).stage, "clock")
 
     def test_limits(self) -> None:
-        """A close that a limit refuses is answered, and both programs say that the log ends there."""
+        """A close that a limit refuses has a reply, and both programs say that the log ends there."""
         both = self.answers(SMALL.replace(b"reserve = 10", b"reserve = 68719476736"))
         self.assertEqual(given(both.auction(CLOCK).limit_stop).line, "cca: limit price 82463372084")
 
@@ -160,7 +160,7 @@ class NoAnswers(Case):
         self.assertEqual(both.auction(CLOCK).stage, "clock")
 
     def test_too_many_records(self) -> None:
-        """One more than the limit takes the replies of all away, whichever way the log came to it."""
+        """One record more than the limit takes the replies of all away, however the log grew to it."""
         both, data = self.answers(), CLOCK + b"bid,east,1 0,\n" * 5
         both.auction(data)
         ended = sealed_program.Ended(["cca: limit records 11"], 7, b"")

@@ -435,7 +435,7 @@ class AsProgram(unittest.TestCase):
         self.assertEqual(given(made.stdout).read(), "The desk is closed.\n")
 
     def entered(self, origin: str, port: int, key: str) -> str:
-        """The page to which the key leads, by HTTP."""
+        """The page that the key leads to, by HTTP."""
         asked = http.client.HTTPConnection("127.0.0.1", port, timeout=20)
         headers = {"Origin": origin, "Content-Type": "application/x-www-form-urlencoded"}
         asked.request("POST", "/", urllib.parse.urlencode({"key": key}), headers)
@@ -450,7 +450,7 @@ class AsProgram(unittest.TestCase):
         return page
 
     def test_idle_connections_hold_nobody(self) -> None:
-        """More of them than a server takes by default; the room's screen is answered beside them."""
+        """More of them than a server takes by default; the room's screen is served as well."""
         _, said = self.start()
         port = int(matched(r":(\d+)/posted", said)[1])
         for it in self.connections(port, 150)[:75]:
@@ -530,14 +530,14 @@ class AsProgram(unittest.TestCase):
 
 
 def listening(port: int) -> list[str]:
-    """The addresses at which somebody listens on a port."""
+    """The addresses where somebody listens on a port."""
     said = subprocess.run(["ss", "-ltnH"], capture_output=True, text=True, check=True).stdout
     places = [row.split()[3].rpartition(":") for row in said.splitlines()]
     return [address for address, _, place in places if place == str(port)]
 
 
 def in_processes(text: str) -> bool:
-    """Whether a text is in the words or the environment of any process that can be seen."""
+    """Whether a text is in the arguments or the environment of any process that can be seen."""
     found = False
     for name in ("cmdline", "environ"):
         for path in pathlib.Path("/proc").glob(f"[0-9]*/{name}"):

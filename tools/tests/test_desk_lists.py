@@ -159,7 +159,7 @@ class Handing(DeskTest):
         self.client.load(answer.location)
 
     def kept(self) -> str:
-        """The list in the form to which the page of what was written leads."""
+        """The list in the form that the page of what was written leads to."""
         self.client.follow("Go on with the lines that the form keeps")
         return self.client.form("list")["list"].strip()
 
@@ -198,8 +198,8 @@ class Handing(DeskTest):
         )
 
     def test_no_file_is_written(self) -> None:
-        """Also not by a body of a size for which the library makes one. (The test client would make one, so the body is
-        made here.)"""
+        """Not even for a body that is large enough for the library to make one. (The test client would make one, so the
+        body is made here.)"""
         client = self.open(SEALED)
         fields = {"token": self.guard.token, "bidder": "tarn", 'file"; filename="list.csv': "\n" * 700_000}
         parts = "".join(

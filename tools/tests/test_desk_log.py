@@ -34,7 +34,7 @@ with_strace = unittest.skipUnless(TRACES, desk_kills.UNTRACED)
 
 
 def never(wanted: bytes) -> list[str]:
-    """A check that nothing may come to."""
+    """A check that nothing may reach."""
     raise AssertionError("nothing may be checked, and so written")
 
 
@@ -46,7 +46,7 @@ class Case(unittest.TestCase):
         self.path = self.folder / "a.log"
 
     def beside(self, kind: str) -> pathlib.Path:
-        """A file beside the log."""
+        """A file in the log's folder."""
         return self.folder / f"a.log.{kind}"
 
     def open(self, copies: pathlib.Path | None = None, **pins: str) -> LogFile:
@@ -75,7 +75,7 @@ class Case(unittest.TestCase):
         *given: Given.args,
         **named: Given.kwargs,
     ) -> None:
-        """A call is refused in these words, and changes no file."""
+        """A call is refused with this message, and changes no file."""
         before = self.files()
         with self.assertRaisesRegex(fault, words):
             run(*given, **named)
@@ -164,7 +164,7 @@ class Lines(Case):
         self.write(log, SECOND)
 
     def test_an_editor_renames_before_a_write(self) -> None:
-        """A new file with the answered lines and one more: it is the log, and its line is found."""
+        """A new file with the noted lines and one more: it is the log, and its line is found."""
         log = self.open()
         self.write(log, FIRST)
         base = log.base(FIRST)
@@ -232,7 +232,7 @@ class Starts(Case):
         self.assertEqual([what for _, what, _ in log.answered_at()], ["begun", "found", "found"])
 
     def test_what_the_disk_may_not_have_is_written_again(self) -> None:
-        """A start writes the newest entry and the lines that were never answered once more, over themselves."""
+        """A start writes the newest entry and the lines that never had a reply again, over themselves."""
         self.write(self.open(), FIRST)
         self.add(SECOND)
         entry = self.beside("desk").read_bytes().splitlines(True)[-1]
@@ -351,10 +351,10 @@ class Starts(Case):
 
 
 class Mends(Case):
-    """Each stop with its mend."""
+    """Each stop with its repair."""
 
     def mended(self, log: LogFile, mend: Mend, wanted: bytes) -> Stop:
-        """The stop names this mend, nothing is written before it, and it works; the journal names what is kept."""
+        """The stop names this repair, nothing is written before it, and it works; the journal names what is kept."""
         stop = self.stopped(log)
         self.assertTrue(stop.allows(mend), stop)
         self.assertTrue(stop.why and stop.safe and stop.todo)
@@ -443,7 +443,7 @@ class Mends(Case):
         self.assertEqual(set(kept_beside(self.path).values()), {FIRST + THIRD})
 
     def test_a_torn_line_of_the_journal(self) -> None:
-        """It is ignored, and stays; also where its line feed alone is missing."""
+        """It is ignored, and stays, even if only its line feed is missing."""
         log = self.open()
         self.write(log, FIRST)
         before = self.beside("desk").read_bytes()

@@ -1,4 +1,5 @@
-"""The pages of the desk: what is typed, answered, written, closed, held again, stopped and ended, through HTTP."""
+"""The pages of the desk: typing, replies, writing, closes, rounds that are run again, stops and the end, through
+HTTP."""
 
 from __future__ import annotations
 
@@ -155,7 +156,7 @@ class Line(DeskTest):
         self.assertEqual(sum(what == "line" for _, what, _ in self.desk.log.answered_at()), 1, journal)
 
     def test_one_line_is_it_and_many_are_them(self) -> None:
-        """Of all that can be done on the page of replies, and of what the page says of a refused line."""
+        """The page of replies says "it" or "them" in its links, its buttons and its warning about a refused line."""
         self.open()
         for texts, links, buttons, warning in (
             ((ONE,), ["Correct it", "Drop it"], ["Write it"], ""),
@@ -250,7 +251,7 @@ class Line(DeskTest):
             self.assertEqual(client.load(place).status_code, 404)
 
     def test_a_table_of_many_columns_has_each_head_in_its_cells_too(self) -> None:
-        """Where they are one below the other, the heads of columns aren't seen."""
+        """If the cells are one below the other, the heads of columns can't be seen."""
         self.open().load("")
         categories, bidders = re.findall(r"<table.*?</table>", self.client.page, re.DOTALL)[:2]
         self.assertNotRegex(categories, "data-head|role=")

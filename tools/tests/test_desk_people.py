@@ -297,11 +297,11 @@ class TwoPeople(DeskTest):
         return one, two
 
     def places(self, client: Client) -> list[str]:
-        """Where the forms of a page are sent to."""
+        """The addresses that the forms of a page are sent to."""
         return [place.removeprefix(f"{self.guard.inside}/") for place, _ in Reader(client.page).forms]
 
     def goes_on(self, client: Client) -> str:
-        """The heading of the page that the first person's browser comes to once the second person has decided."""
+        """The heading of the page that the first person's browser reaches after the second person has decided."""
         client.load(client.load("approve").location)
         return client.heading()
 
@@ -431,7 +431,7 @@ class Doors(DeskTest):
         self.assertTrue(second.is_shared())
 
     def test_the_room_s_screen_waits_for_nothing(self) -> None:
-        """It is answered while the desk is at work for another page."""
+        """It is served while the desk is at work for another page."""
         client, answers = self.open(), self.desk.answers
         first, probe = client.load("/posted").text, answers.probe
         is_begun, goes_on = threading.Event(), threading.Event()

@@ -67,7 +67,7 @@ class Scripts(unittest.TestCase):
         self.assertEqual(len(texts), 1)
 
     def test_standard_error_that_takes_nothing(self) -> None:
-        """It changes no status: a fault is no verdict."""
+        """It changes no status: a fault isn't a verdict."""
         for more in ("2>&-", "2>/dev/full"):
             with self.subTest(more=more):
                 self.assertEqual(in_shell("state", ["--help"], more), 0)
@@ -223,7 +223,7 @@ class Scripts(unittest.TestCase):
                 path.write_text(whole)
 
     def test_scripts_without_their_modules(self) -> None:
-        """`cca`, `trial` and `second_proof/audit` alone in a folder."""
+        """`cca`, `trial` and `second_proof/audit`, each in a folder without other files."""
         with tempfile.TemporaryDirectory() as folder:
             for name in ("cca", "trial", "second_proof/audit"):
                 shutil.copy(ROOT / name, folder)
@@ -272,7 +272,8 @@ NAMESPACE = ["unshare", "--mount"] if os.geteuid() == 0 else ["unshare", "--moun
 
 class TemporaryFiles(unittest.TestCase):
     def ended(self, pages: int, *words: str) -> "subprocess.CompletedProcess[str]":
-        """How a tool ends if so many pages are left for its temporary files. Skips a test if nothing can be mounted."""
+        """How a tool ends if this many pages are left for its temporary files. Skips a test if nothing can be
+        mounted."""
         with tempfile.TemporaryDirectory() as name:
             folder = pathlib.Path(name)
             program, room = folder / "program", folder / "room"
@@ -288,7 +289,7 @@ class TemporaryFiles(unittest.TestCase):
         return done
 
     def test_a_full_disk(self) -> None:
-        """Where a book has no room, and where the program has none for its certificate."""
+        """The disk is full when the book is written, or when the program writes its certificate."""
         for pages in (1, 2):
             with self.subTest(pages=pages):
                 done = self.ended(pages, script("report"), BOOK)

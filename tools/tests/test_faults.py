@@ -28,7 +28,7 @@ EIO = OSError(5, "Input/output error", "a.file")
 
 
 def limited(count: int) -> Callable[[], None]:
-    """Has a process write no file of more than so many bytes."""
+    """Keeps a process from writing a file of more than this many bytes."""
     return lambda: resource.setrlimit(resource.RLIMIT_FSIZE, (count, count))
 
 
@@ -41,7 +41,7 @@ class Folder(unittest.TestCase):
         self.addCleanup(shutil.rmtree, self.folder)
 
     def script(self, name: str) -> pathlib.Path:
-        """A script with a package of its own, of which Python has kept no module."""
+        """A script with a package of its own, without compiled modules of Python."""
         shutil.copytree(
             os.path.join(TOOLS, "cca_tools"),
             self.folder / "cca_tools",
@@ -105,7 +105,7 @@ class Sentences(Folder):
             self.assertEqual(reason(fault), "")
 
     def test_a_fault_of_the_system(self) -> None:
-        """It is told from a fault of the tool."""
+        """It is distinguished from a fault of the tool."""
         for fault, line in (
             (
                 EIO,
@@ -133,7 +133,7 @@ class Sentences(Folder):
 
 
 class NoVerdict(Folder):
-    """Status 1 is a verdict alone."""
+    """Status 1 is only for verdicts."""
 
     def test_a_program_that_says_nothing(self) -> None:
         """A program that ends with 1 and says nothing isn't cca, and says no to nothing."""

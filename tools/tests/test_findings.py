@@ -1,7 +1,7 @@
 """The titles of reports, each tested against the numbers of 500 drawn auctions.
 
 An auction is drawn as its award and log. Its winners and Vickrey prices are the right ones; what coalitions ask for
-above these is drawn too, since a title has to be true whatever that is. What a title claims is read out of its words,
+above these is drawn too, since a title has to be true whatever that is. The claims of a title are read from its text,
 and compared with numbers that are computed here.
 """
 import dataclasses
@@ -115,7 +115,7 @@ class Findings(unittest.TestCase):
         self.assertGreater(len(forms), 12)
 
     def check_head(self, head: str, at: int, whole: int) -> None:
-        """What a title says of those that pay their Vickrey prices."""
+        """The part of a title about winners that pay their Vickrey prices."""
         if not head:
             self.assertEqual(at, 0)
         elif found := re.fullmatch(rf"({COUNT}) of ({COUNT}) winners pays? (?:its|their) Vickrey price", head, re.I):
@@ -127,7 +127,7 @@ class Findings(unittest.TestCase):
             self.assertEqual((many, at), (whole, whole))
 
     def check_raised(self, tail: str, raised: Mapping[str, Fraction], source: Source) -> None:
-        """What a title says of those that pay more."""
+        """The part of a title about winners that pay more."""
         form = rf"(?:(a) coalition raises|({COUNT}) coalitions raise) (.*?)(?:, above (?:its|their) Vickrey prices?)?"
         found = given(re.fullmatch(form, tail, re.I))
         rows = [row for row in given(source.certificate).rows if len(row.members) > 1 and row.second]
@@ -207,7 +207,8 @@ class Findings(unittest.TestCase):
         self.assertEqual(winners.result(source), [Words(told)])
 
     def test_lots_that_stay_have_columns(self) -> None:
-        """How many lots of each category stay and their reserves, if any stay; else the table has no such columns."""
+        """If any lots stay, the table has the lots of each category that stay and their reserves. Otherwise it has no
+        such columns."""
         kinds = set()
         for source in self.each():
             table, book = winners.lots_table(source), given(source.book)

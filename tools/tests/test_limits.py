@@ -3,7 +3,7 @@ import re
 import unittest
 
 from checks.cases.limit_pages import FIELDS, FORMATS, LIMITS, SAID, field_numbers, said_number, table_rows
-from checks.cases import samples  # noqa: F401  (it says where the package is)
+from checks.cases import samples  # noqa: F401  (it finds the package)
 
 from cca_tools.rules.stops import LIMIT, MOST, WORDS, Stop, within
 

@@ -24,7 +24,7 @@ PRICES = "winner east 1 bid 20 vickrey 10 pays 10\nwinner west 2 bid 24 vickrey 
 
 
 def small_cert(pay: Sequence[int] = (0, 4)) -> bytes:
-    """The certificate of the worked log: without east west wins alone, without west east's three lots do."""
+    """The certificate of the worked log: without east only west wins, and without west east's three lots win."""
     rows = [([1], 1, 0, (0, 1)), ([2], 1, 0, (2, 0))]
     return certificate_of((3,), BIDS, (1, 1), {1: (0, 1), 2: (2, 0)}, 1, pay, rows, reserves=(10,))
 
@@ -41,11 +41,11 @@ class Audit(unittest.TestCase):
 
     def test_no(self) -> None:
         self.assertEqual(said(audit, SMALL, lines(ROW), small_cert((0, 3))), ("no C6 2", 1))
-        # without east's draft for three lots its clock amount of 30 stands, and west's part shows too much
+        # without east's draft for three lots its clock amount of 30 is its bid, and west's part shows too much
         self.assertEqual(said(audit, SMALL, lines(ROW.replace("draft,east,3,44", "drop,east,3,")), small_cert())[1], 1)
 
     def test_sample(self) -> None:
-        """The answers are those of the guide."""
+        """The answers are the same as in the guide."""
         award, log, cert = (sample(f"spectrum.{kind}") for kind in ("award", "log", "cert"))
         text, status = said(audit, award, log, cert)
         self.assertEqual(
@@ -243,7 +243,7 @@ class Explain(unittest.TestCase):
         self.assertEqual(self.told("review", book, many)[0].splitlines()[0], "cca: limit records 1001")
 
     def test_refused_edits(self) -> None:
-        """Each reason of `cca review`, in the order in which it is looked for."""
+        """Each reason of `cca review`, in the order of the tests."""
         book = "book 1 / supply 2 1 / reserve 5 7 / bidder a / bid 1 0 9 / bidder b / end"
         top = 2**42
         rows = [
@@ -486,7 +486,7 @@ class WhatIf(unittest.TestCase):
         self.assertIn(
             "The rules would refuse it on the submitted list of east: 3 for 45 would be above its cap, 44.", text
         )
-        # of west's two lots 20 is the least that the reserve and the clock allow, and they win beside one of east's
+        # of west's two lots 20 is the least that the reserve and the clock allow, and they win with one of east's
         self.assertEqual(
             said(lambda names: what_if([*names, "--least", "west", "2"]), SMALL, lines(ROW))[0].splitlines()[0],
             "least west 2 24",
@@ -501,7 +501,7 @@ class WhatIf(unittest.TestCase):
 
 @with_program
 class BesideTheProgram(unittest.TestCase):
-    """What the package says of winners and prices is what the program prints."""
+    """The package's winners and prices are the ones that the program prints."""
 
     def test_books(self) -> None:
         for name in ("day-cramton.book", "tie.book", "six-bidders.book"):
@@ -524,7 +524,7 @@ class BesideTheProgram(unittest.TestCase):
         self.assertEqual([*prices, *ties], lines_before)
         self.assertEqual(told[told.index("after") + 1 :], after)
         text, _ = said(lambda names: what_if([*names, "--least", "east", "3"]), SMALL, log)
-        # (the list that is admitted has 21 for the package on which the cap rests, and wins that instead)
+        # (the list that is admitted has 21 for the package that the cap depends on, and wins that instead)
         book = b"book 1\nsupply 3\nreserve 10\nbidder east\nbid 1 21\nbid 3 45\nbidder west\nbid 2 24\nend\n"
         wanted = program_run("price", "BOOK", "CERT", BOOK=book).printed.splitlines()
         found = text.splitlines()[text.splitlines().index("with that list") + 1 :]

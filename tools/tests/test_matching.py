@@ -55,7 +55,7 @@ class Matching(unittest.TestCase):
         self.assertEqual(longest_rise([]), [])
 
     def test_a_few_changes_far_apart_are_found_in_few_steps(self) -> None:
-        """Lines that are there many times, of which two differ."""
+        """Two lines differ among lines that occur many times."""
         old = ["a", "b", "c", "b"] * 5000
         new = list(old)
         new[3], new[-5] = "x", "x"

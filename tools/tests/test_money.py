@@ -68,17 +68,17 @@ class Case(NamedTuple):
 
 
 def argument(number: int, name: str, found: str, due: str) -> str:
-    """What mypy says of an argument of another type than is due."""
+    """What mypy says about an argument of another type than is due."""
     return f'Argument {number} to "{name}" has incompatible type "{found}"; expected "{due}"'
 
 
 def mixed(name: str) -> str:
-    """What mypy says of amounts of two kinds that are summed up or subtracted."""
+    """What mypy says about amounts of two kinds that are summed up or subtracted."""
     return f'Value of type variable "WholeT" of "{name}" cannot be "int"'
 
 
 def unmatched(one: str, other: str) -> str:
-    """What mypy says of the difference of amounts of two kinds."""
+    """What mypy says about the difference of amounts of two kinds."""
     return f'No overload variant of "difference" matches argument types "{one}", "{other}"'
 
 
@@ -232,7 +232,7 @@ class Money(unittest.TestCase):
         self.assertEqual(self.errors(HEAD + "".join(f"    {line}\n" for line in lines)), refused)
 
     def errors(self, text: str) -> list[tuple[int, str]]:
-        """The lines of a program that mypy refuses, and what it says of them."""
+        """The lines of a program that mypy refuses, and what it says about them."""
         with tempfile.TemporaryDirectory() as folder:
             program = pathlib.Path(folder, "program.py")
             program.write_text(text)

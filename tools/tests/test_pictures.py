@@ -60,7 +60,7 @@ class Mark:
 
 
 def marks_of(picture: str) -> list[Mark]:
-    """The marks of a picture, in the order in which they are drawn."""
+    """The marks of a picture, in drawing order."""
     found = []
     for it in ElementTree.fromstring(picture):
         tag = it.tag.rpartition("}")[2]
@@ -81,7 +81,8 @@ def numbers_of(letters: str) -> list[Fraction]:
 
 
 def scale_of(marks: Sequence[Mark], is_across: bool) -> tuple[Callable[[Real], float], list[Fraction]]:
-    """The scale that ticks print, each a short line with its number after it: where a number is, and the numbers."""
+    """The scale that ticks print, each a short line with its number after it: a function from a number to its place,
+    and the numbers."""
     found: dict[Fraction, float] = {}
     for line, text in zip(marks, marks[1:]):
         if line.tag == "line" and text.tag == "text" and (number := numbers_of(text.letters)):
@@ -94,7 +95,7 @@ def scale_of(marks: Sequence[Mark], is_across: bool) -> tuple[Callable[[Real], f
 
 
 def log_scale_of(marks: Sequence[Mark]) -> tuple[Callable[[Real], float], list[int]]:
-    """The logarithmic scale that ticks print at the left: where a number is, and the numbers."""
+    """The logarithmic scale that ticks print at the left: a function from a number to its place, and the numbers."""
     found: dict[Fraction, float] = {}
     for line, text in zip(marks, marks[1:]):
         if line.tag == "line" and text.tag == "text" and (number := numbers_of(text.letters)):
@@ -129,7 +130,7 @@ class Scales(Pictures):
     STEPS = [digit * 10**power for power in range(9) for digit in (1, 2, 5)]
 
     def test_steps(self) -> None:
-        """The least step of which at most this many fit into a span."""
+        """The least step that fits into a span at most this many times."""
         for span in (0, 0.5, 1, 7, 10, 21.3, 99, 100, 101, 12345.6, 10**6):
             for most in (1, 3, 8):
                 step = next(step for step in self.STEPS if span / step <= most)
@@ -189,7 +190,7 @@ class OfACategory(Pictures):
         self.assertEqual(letters, ["200,000", "220,000", "231,000", "242,600, +21.3 %"])
 
     def test_each_category_is_seen_beside_a_high_one(self) -> None:
-        """A rise of 10 % beside one to 400 % of the reserve; each doubling is equally high."""
+        """A rise of 10 % next to one to 400 % of the reserve; each doubling is equally high."""
         marks = marks_of(charts.category("c", "", "", (200, 220), (3, 2), 2, 400.0, 150.0, False))
         place, numbers = log_scale_of(
             marks[: next(at for at, it in enumerate(marks) if it.letters.startswith("demand"))]

@@ -1,4 +1,4 @@
-"""Where the lots of a category are in its band: what reports and published sets show of a placement, and what they
+"""The places of a category's lots in its band: what reports and published sets show of a placement, and what they
 refuse."""
 
 from __future__ import annotations

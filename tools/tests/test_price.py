@@ -50,7 +50,7 @@ NO_PROGRAM = {"CCA_PROGRAM": "/nowhere"}
 
 
 def drawn(seed: int) -> Book:
-    """A book of two categories, or of one with so many lots that more than six may win."""
+    """A book of two categories, or of one category with enough lots for more than six winners."""
     rng, is_long = random.Random(seed), seed % 2
     supply = (rng.randint(10, 14),) if is_long else (rng.randint(3, 4), rng.randint(3, 4))
     bids = []
@@ -62,15 +62,15 @@ def drawn(seed: int) -> Book:
 
 
 def singles(amounts: Sequence[int], supply: int, losers: Sequence[tuple[int, int]] = ()) -> Book:
-    """A book of one category in which each bidder bids for one lot, and the losers for packages of their own."""
+    """A book of one category. Each bidder bids for one lot, and the losers for packages of their own."""
     bids: list[list[Bid]] = [[((1,), Gross(amount))] for amount in amounts]
     bids += [[((count,), Gross(amount))] for count, amount in losers]
     return Book((supply,), (0,), [f"b{j}" for j, _ in enumerate(bids, 1)], bids)
 
 
 def rivals(winners: int, losers: Sequence[int] = (50, 40, 30, 20, 10)) -> Book:
-    """A book in which each winner needs a row of its own: all bid for one lot, and the losers offer less one after the
-    other. So each winner alone has to pay the first loser's bid, and two together less than twice that.
+    """A book whose winners each need a row of their own: all bid for one lot, and the losers offer less one after the
+    other. So each single winner has to pay the first loser's bid, and two together less than twice that.
     """
     return singles([100 + j for j in range(winners)], winners, [(1, amount) for amount in losers])
 
@@ -136,7 +136,7 @@ class Points(unittest.TestCase):
         )
 
     def test_points_are_those_of_a_plain_search(self) -> None:
-        """All rows of three winners at once. The plain search goes through all sets of rows that may be tight."""
+        """All rows of three winners at once. The plain search tests all sets of rows that may be tight."""
         rng = random.Random(4)
         for _ in range(60):
             vickrey, weights = [Net(rng.randint(0, 9)) for _ in range(3)], [rng.randint(1, 5) for _ in range(3)]
@@ -238,7 +238,7 @@ class Rows(unittest.TestCase):
         self.assertEqual(len(tight_rows(market, found, 5_000).rows), 2**12 - 1)
 
     def shown(self, sets: Sequence[int]) -> Shown:
-        """Rows of these members, with first multipliers of 1 alone."""
+        """Rows of these members, with only first multipliers, all of them 1."""
         ones = [Fraction(1)] * len(sets)
         return Shown(
             [Demand(members, Net(0), ()) for members in sets],
@@ -587,7 +587,7 @@ class NewFiles(unittest.TestCase):
             self.assertEqual(os.listdir(os.path.dirname(self.path)), [])
 
     def test_great_numbers_are_refused(self) -> None:
-        """Amounts above those of a book, so that the certificate's numbers pass their limit."""
+        """Amounts above the greatest of a book, so that the certificate's numbers pass their limit."""
         book = singles([10] * 3, 3, [(3, 20)])
         great = Book(
             book.supply,

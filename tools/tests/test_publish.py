@@ -34,7 +34,7 @@ report, seal, publish = map(taking, ("report", "seal", "publish"))
 
 
 def run(name: str, *words: str) -> tuple[str, int, str]:
-    """What a tool prints, its status, and its standard error, where the program isn't there."""
+    """What a tool prints, its status, and its standard error, if the program isn't there."""
     return called(name, *words, CCA_PROGRAM="/nowhere")
 
 
@@ -172,7 +172,7 @@ class Names(Files):
 
 class Publish(Files):
     def test_a_set(self) -> None:
-        """The whole set; sha256sum takes its sums, and the files in it pass what its page says of them."""
+        """The whole set; sha256sum accepts its checksums, and the files pass the tests that the page describes."""
         key, posted = self.write("a.key", KEY), str(self.folder / "a.posted")
         self.assertEqual(run("seal", "sum", "--publish", key, *self.files[:2], posted)[1], 0)
         more = [
@@ -202,7 +202,7 @@ class Publish(Files):
             "names.toml",
         ]
         tables = [f"tables/{name}.csv" for name in ("winners", "rounds", "prices", "bids")]
-        # (the page that audits is in a release, and in a checkout in which it was built)
+        # (the page that audits is in a release, and in a checkout that has built it)
         audit = publication.audit_page()
         self.assertEqual(
             found,

@@ -1,4 +1,4 @@
-"""Bidders with values hold whole auctions."""
+"""Bidders with values take part in whole auctions."""
 import pathlib
 import tempfile
 import threading

@@ -49,7 +49,7 @@ Attributes: TypeAlias = list[tuple[str, str | None]]
 
 
 def facts_of(*texts: bytes, program: str = "", bidder: str = "") -> source.Source:
-    """The facts of files with these bytes, beside a program of these bytes or none."""
+    """The facts of files with these bytes, together with a program of these bytes or none."""
     with tempfile.TemporaryDirectory() as folder:
         names = [os.path.join(folder, f"file{at}") for at, _ in enumerate(texts)]
         for name, text in zip(names, texts):
@@ -130,7 +130,7 @@ def tables_of_lines(section: Section) -> list[Table]:
 
 
 def details_of(cell: Cell) -> dict[str, str]:
-    """What the words of a cell rest on, by its heads."""
+    """The details of a cell, by their heads."""
     return {head: text for head, text in cell.details}
 
 
@@ -159,7 +159,7 @@ class Numbers(unittest.TestCase):
         self.assertEqual((words.price_cell(292400).words, words.price_cell(292400).code), ("292,400", ""))
 
     def test_letters_of_fractions(self) -> None:
-        """Each letter has the value that Unicode gives it."""
+        """Each letter has its value by Unicode."""
         for part, letter in words.VULGAR.items():
             self.assertEqual(Fraction(unicodedata.numeric(letter)).limit_denominator(100), part)
             self.assertEqual(words.price(7 + part), f"7{letter}")
@@ -267,7 +267,7 @@ class OfABook(Told):
         self.assert_told("A book of bids, with 0 bidders.", told)
 
     def test_three_winners(self) -> None:
-        # Least are 12 for b1 and b2, and 7 for b2 and b3, of which b3 pays no more than its 1: so b2 pays 6, and b1 the
+        # Least are 12 for b1 and b2, and 7 for b2 and b3, and b3 pays no more than its 1. So b2 pays 6, and b1 the
         # other 6.
         supply, bids = (1, 1, 1), [
             [((1, 0, 0), 9)],

@@ -35,8 +35,8 @@ FATAL = "! A close must not be written now: a limit refuses it, and no later lin
 
 
 def shown(award: str | bytes, log: str | bytes, *words: str, **environment: str) -> tuple[str, int, str]:
-    """What tools/state prints of these bytes, its status, and its standard error, with these variables alone of those
-    that say how wide a screen is and whether it has colours."""
+    """What tools/state prints of these bytes, its status, and its standard error, with only these of the variables that
+    say how wide a screen is and whether it has colours."""
     with tempfile.TemporaryDirectory() as folder:
         names = [os.path.join(folder, name) for name in ("an.award", "a.log")]
         for name, data in zip(names, (award, log)):
@@ -110,7 +110,7 @@ class Clock(unittest.TestCase):
         self.assertFalse(any("no line in this round" in row for row in rows))
 
     def test_who_asks_for_nothing_is_named(self) -> None:
-        """Also a bidder whose slip was corrected by an empty package."""
+        """Also a bidder whose mistake was corrected by an empty package."""
         five = b"".join(sample("spectrum.log").splitlines(True)[:5])
         rows = shown(sample("spectrum.award"), five + b"bid,tarn,2 1 4 0,\nbid,tarn,0 0 0 0,\n")[0].splitlines()
         self.assertIn(
@@ -182,7 +182,7 @@ class Fatal(unittest.TestCase):
         )
 
     def test_what_it_says_of_a_close_comes(self) -> None:
-        """On drawn auctions the close that is written next does what was said of it."""
+        """On drawn auctions the close that is written next does what was said about it."""
         seen = set()
         for number in range(40):
             drawing = Drawing(number)
@@ -227,7 +227,8 @@ class Lists(unittest.TestCase):
         self.assertIn(f"! {words}", rows)
 
     def test_each_entry_above_its_cap(self) -> None:
-        """Those of a drawn list are the ones that its submission refuses, each lowered to its cap in turn."""
+        """The entries of a drawn list that are above their caps are the ones that its submission refuses, each lowered
+        to its cap in turn."""
         many = 0
         for number in range(60):
             drawing = Drawing(number, 1 + number % 2)
@@ -365,7 +366,7 @@ class Words(unittest.TestCase):
         self.assertLessEqual(max(map(len, plain.splitlines())), 60)
 
     def test_watch(self) -> None:
-        """Colours go through a pipe where they are asked for, and NO_COLOR is stronger."""
+        """Colours go through a pipe if they are asked for, and NO_COLOR overrides that."""
         log = lines("bid,east,1,")
         self.assertIn("\x1b[31m! west", shown(SMALL, log, FORCE_COLOR="1")[0])
         self.assertNotIn("\x1b", shown(SMALL, log, FORCE_COLOR="1", NO_COLOR="1")[0])

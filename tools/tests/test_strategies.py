@@ -220,7 +220,7 @@ class LocalGlobal(unittest.TestCase):
 
     @with_program
     def test_a_coarser_grid_by_the_study(self) -> None:
-        """40 auctions and three amounts: each profit is that of the closed form, and so is the best answer."""
+        """40 auctions and three amounts: each profit is the closed form's, and so is the best answer."""
         with tempfile.TemporaryDirectory() as name:
             folder = pathlib.Path(name)
             for end in ("award", "values"):
@@ -290,7 +290,7 @@ class References(unittest.TestCase):
 
     @with_program
     def test_a_known_case(self) -> None:
-        """Two locals that bid 8 and 2 beside a global's 6: Vickrey prices are 4 and 0, the core asks for 6. From there
+        """Two locals that bid 8 and 2 against a global's 6: Vickrey prices are 4 and 0, the core asks for 6. From there
         both pay half of what is missing, from zero each pays 3 but no more than its bid of 2, and from the bids, 8 and
         2, each pays 2 less until the first pays 6."""
         book = Book((1, 1), (0, 0), ["a", "b", "g"], [[((1, 0), Gross(8))], [((0, 1), Gross(2))], [((1, 1), Gross(6))]])

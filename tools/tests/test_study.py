@@ -132,7 +132,7 @@ class Measures(WithPlan):
         self.assertEqual((found.error, found.words(), found.interval_words()), (None, "2.33", "n/a"))
 
     def test_intervals(self) -> None:
-        """Student's values are those of printed tables; Wilson's intervals those of Newcombe (1998), in his table I."""
+        """Student's values are as in printed tables, and Wilson's intervals as in table I of Newcombe (1998)."""
         for freedom, value in {1: 12.706, 2: 4.303, 3: 3.182, 4: 2.776, 9: 2.262, 29: 2.045, 120: 1.980}.items():
             self.assertAlmostEqual(student(freedom), value, 3)
         for some, every, low, high in ((81, 263, 0.2553, 0.3662), (15, 148, 0.0624, 0.1605), (0, 20, 0, 0.1611)):
@@ -141,7 +141,7 @@ class Measures(WithPlan):
             self.assertAlmostEqual(found[1], high, 4)
 
     def test_many_values_of_real_size(self) -> None:
-        """The mean and the error of 4,000 values with as many denominators, beside those of floats."""
+        """The mean and the error of 4,000 values with as many denominators, compared with the ones that floats give."""
         values = [Fraction(100 * (n * n % 7919), 3_000_001 + n) for n in range(4000)]
         found = spread_of(values)
         self.assertAlmostEqual(found.mean, statistics.fmean(map(float, values)), 9)
@@ -159,13 +159,13 @@ class Measures(WithPlan):
 
 
 def row_of(number: int, *values: object) -> Row:
-    """A row of a table; all profit is that of east."""
+    """A row of a table; only east has a profit."""
     cells = "auction best core vickrey bids efficiency raised rounds unsold profit east_profit west_profit".split()
     return dict(zip(cells, map(str, (number, *values, values[-1], 0))))
 
 
 class Pages(WithPlan):
-    """The page of two cases of three auctions, of which a limit stopped one."""
+    """The page of two cases of three auctions; a limit stopped one of them."""
 
     TABLE = [
         row_of(1, 100, 50, 50, 90, 1, "no", 3, 0, 40),
@@ -199,7 +199,7 @@ class Pages(WithPlan):
 
     def test_measures(self) -> None:
         """In the first case the core's revenue is 50, 60 and 70 percent: its mean is 60, its variance 100, and the
-        standard error the root of 100/3; the others likewise. Wilson's interval of 2 of 3 is 20.77 to 93.85 (as
+        standard error the root of 100/3; the others in the same way. Wilson's interval of 2 of 3 is 20.77 to 93.85 (as
         scipy and R's prop.test without correction have it)."""
         (table,) = [it for it in self.page.sections[0].blocks if isinstance(it, Table)]
         two, both = "66.67 (20.77 to 93.85)", "100.00 (34.24 to 100.00)"
@@ -208,7 +208,7 @@ class Pages(WithPlan):
         self.assertEqual(table.rows, [["version 1", *first, "1.00 ± 1.00"], ["version 2", *second, "0.00 ± 0.00"]])
 
     def test_differences(self) -> None:
-        """The first two auctions alone have both. In percent of the first case's best value, 100, revenue is 90 and 40
+        """Only the first two auctions have both. In percent of the first case's best value, 100, revenue is 90 and 40
         more, and profit 20 less and 30 more."""
         rules, pair = drawings(self.results)
         self.assertEqual(
@@ -232,7 +232,7 @@ class Pages(WithPlan):
         )
 
     def test_pictures_are_parts_of_the_page(self) -> None:
-        """A picture of the page is no file of its own: a browser would show its head as text."""
+        """A picture of the page isn't a file of its own: a browser would show its head as text."""
         text = html.page(self.page)
         self.assertEqual((text.count("<svg "), text.count("<?xml")), (2, 0))
         self.assertEqual([it.text(is_file=True)[:5] for it in drawings(self.results)], ["<?xml"] * 2)
@@ -303,7 +303,7 @@ class Runs(WithPlan):
         page = (self.folder / "whole" / "page.html").read_text()
         pictures = {path.name: path.read_text() for path in (self.folder / "whole").glob("*.svg")}
         self.assertEqual(sorted(pictures), ["pair1.svg", "pair2.svg", "pair3.svg", "pair4.svg", "rules.svg"])
-        # (each of two pictures has it as the head of its card, twice in itself, and above its table)
+        # (for each of two pictures it is the head of the card, twice in the picture, and above the table)
         self.assertEqual((page.count("<svg"), page.count("share 60 against 100")), (5, 8))
         self.assertIn("with the final cap (version 2) against without", pictures["pair2.svg"])
 
@@ -396,7 +396,8 @@ class Runs(WithPlan):
         self.assertEqual([it.row.get("audit") for it in made], ["yes", "", "", "yes", "yes"])
 
     def study_of_single_lots(self, name: str, lots: int) -> list[Row]:
-        """The table of auctions in which as many bidders as lots win one each, and no further lot is worth as much."""
+        """The table of a study whose auctions have as many winners as lots: each wins one, and a further lot is worth
+        less."""
         many = b"".join(b'[[bidder]]\nname = "c%d"\neligibility = 9\n' % n for n in range(lots - 1))
         (self.folder / "a.award").write_bytes(
             ONE.replace(b"supply = 2", b"supply = %d" % lots).replace(b"[[step]]", many + b"[[step]]")

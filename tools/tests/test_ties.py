@@ -1,4 +1,4 @@
-"""Ties: the choices that are shown are those of an enumeration, and each tool that names winners shows them."""
+"""Ties: the choices that are shown are the same as by enumeration, and each tool that names winners shows them."""
 import itertools
 import os
 import random

@@ -1,5 +1,5 @@
-"""The reader of TOML beside that of Python's library, which knows TOML 1.0; what TOML 1.1 has more, and what neither
-reads."""
+"""The reader of TOML compared with the one of Python's library, which knows TOML 1.0. Also what only TOML 1.1 has, and
+what neither reads."""
 import datetime
 import unittest
 from checks.cases.samples import sample
@@ -148,7 +148,7 @@ NEWER = [
 
 
 def plain(value: object) -> object:
-    """A value in which all dates are alike, as the reader keeps them."""
+    """A value with all dates made alike, as the reader keeps them."""
     if isinstance(value, dict):
         return {key: plain(one) for key, one in value.items()}
     if isinstance(value, list):

@@ -23,7 +23,7 @@ from cca_tools.__main__ import COMMANDS, main as main_of_all
 from cca_tools.rules.stops import NO, Stop
 from cca_tools.terminal import Progress, broken
 
-# Right words of each tool, the files among them with a dot, and the beginning of what it prints.
+# Right arguments of each tool, the files among them with a dot, and the beginning of what it prints.
 RIGHT = {
     "explain": ("check day-cramton.book day-cramton.cert", "The certificate passes all tests.\n"),
     "caps": ("spectrum.award spectrum.log everest", "everest final round 4 held 1 0 3 0 list 3\n"),
@@ -32,13 +32,13 @@ RIGHT = {
     "report": ("day-cramton.book day-cramton.cert --text", "Auction report: day-cramton\n"),
     "state": ("spectrum.award spectrum.log", "= The clock ended after round 4. The auction is closed.\n"),
 }
-# Those of the court's own files, which aren't of the package; test_court has more of them.
+# The right arguments of the court's own files, which aren't of the package; test_court has more of them.
 COURT = {
     "audit": ("spectrum.award spectrum.log spectrum.cert", "yes\nwinner everest "),
     "check": ("day-cramton.book day-cramton.cert", "yes\nwinner b1 1 0 bid 28 vickrey 14 pays 17\n"),
     "check-places": ("band.slots place.cert", "yes\nplaced x 1 2\n"),
 }
-# The tools whose output has to agree with that of cca.
+# The tools whose output has to agree with cca's.
 AGREE = ("explain",)
 PLACE_CERT = lines(
     "pcert 1 / den 1 / value 18 / order 1 3 2 / choice 1 1 0 / table / t 18 8 12 0 8 8 0 0 / without 1 / order 2 3 1 / "
@@ -84,7 +84,7 @@ class WithFiles(unittest.TestCase):
         return [self.path(word) for word in {**RIGHT, **COURT}[name][0].split()]
 
     def files(self, name: str) -> list[int]:
-        """The places of files among the right words."""
+        """The places of files among the right arguments."""
         return [place for place, word in enumerate({**RIGHT, **COURT}[name][0].split()) if "." in word]
 
 
@@ -125,7 +125,7 @@ class AsPrograms(WithFiles):
         self.assertEqual((made.returncode, "No module named 'cca_tools'" in made.stderr), (70, True))
 
     def test_a_reader_that_goes_away(self) -> None:
-        """The text has more than a pipe holds, and its reader reads one byte."""
+        """The text has more than a pipe takes, and its reader reads one byte."""
         book = lines("book 1 / supply 1 / reserve 0 / bidder a / bid 1 1 / end")
         with subprocess.Popen(
             [sys.executable, os.path.join(TOOLS, "report"), "--text", *self.right("audit")], stdout=subprocess.PIPE
@@ -163,7 +163,7 @@ class AsPrograms(WithFiles):
 
 class Words(WithFiles):
     def fault(self, name: str, *words: str) -> str:
-        """What is said of wrong arguments, which have status 2."""
+        """The message for wrong arguments, whose status is 2."""
         text, status, said = called(name, *words)
         self.assertEqual((text, status), ("cca: words\n" if name in AGREE else "", 2), said)
         self.assertEqual(said.splitlines()[-1], f"`tools/{name} --help` says what it takes.")
@@ -264,7 +264,7 @@ class Words(WithFiles):
 
 class Files(WithFiles):
     def answer(self, name: str, place: int, path: str) -> tuple[str, int, list[str]]:
-        """The line of a fault, the status and what is said, with another file at one place."""
+        """The line of a fault, the status and the rest of the message, with another file at one place."""
         words = self.right(name)
         words[place] = path
         text, status, said = called(name, *words)
@@ -449,7 +449,7 @@ class OnATerminal(WithFiles):
 
 class Stopped(unittest.TestCase):
     def test_a_no_goes_to_standard_output(self) -> None:
-        """With what it means, but where the output has to agree with cca."""
+        """It is printed with its meaning, unless the output has to agree with cca."""
 
         def run(options: argparse.Namespace) -> str:
             raise Stop("no C8 2", NO, why="it fails")

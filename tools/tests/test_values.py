@@ -42,7 +42,7 @@ def table(text: str) -> bytes:
 
 class Draws(unittest.TestCase):
     def test_a_draw_is_the_sha_256_of_its_name(self) -> None:
-        """The checksums are those of sha256sum."""
+        """The checksums are the ones that sha256sum prints."""
         for name, found in {
             ("north", "lot", 1, 1): "3a7b5dac1275233191c17c1e70ebdbe055c1029d092f9cf038078874df6ea742",
             ("north", "lot", 1, 2): "e17480646e79fc386d141674d4deefd59fb6a0f2b6179273c9ecf03c9f201a72",

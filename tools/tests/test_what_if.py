@@ -27,8 +27,8 @@ def auction_of(award: bytes, log: bytes) -> Auction:
 
 
 def submitted(award: bytes, log: bytes, j: int, listed: Mapping[Package, int]) -> tuple[Auction, Reply]:
-    """The auction in which bidder j drafts and submits just this list before the sealed round is closed, and the reply
-    to the submission."""
+    """The auction if bidder j drafts and submits just this list before the sealed round is closed, and the reply to the
+    submission."""
     terms = read_award(award)
     whole = replay(terms, read_log(log, terms))
     closed = [reply.word for reply in whole.replies].index("closed")
@@ -47,7 +47,7 @@ def submitted(award: bytes, log: bytes, j: int, listed: Mapping[Package, int]) -
 
 
 def won(book: Book, j: int) -> tuple[Package, int] | None:
-    """The package and the amount with which bidder j wins, or None."""
+    """The package and the amount of bidder j's winning bid, or None."""
     return book.won(winning_choice(book)[0], j)
 
 
@@ -116,7 +116,7 @@ class Advice(unittest.TestCase):
             self.assertNotEqual(less and less[0], package)
 
     def check_note(self, auction: Auction, j: int, package: Package, amount: int, rows: Sequence[str]) -> None:
-        """Where it is said that the amount may not be less, one less can't be drafted, and only there."""
+        """The rows say that the amount may not be less if, and only if, one less can't be drafted."""
         name, desk = auction.award.names[j - 1], auction.desks[j - 1]
         fault = auction.amount_fault(Line(0, 0, "draft", name, j, package, Gross(amount - 1)), desk)
         is_least = fault is not None and fault.word in ("below-reserve", "below-clock")
@@ -137,7 +137,7 @@ class Advice(unittest.TestCase):
     def check_mended(
         self, award: bytes, log: bytes, j: int, package: Package, rows: Sequence[str], listed: Mapping[Package, int]
     ) -> None:
-        """The list that is advised is admitted, and wins what it is said to win."""
+        """The list that is advised is admitted, and wins what the rows say."""
         row = next(row for row in rows if row.startswith("They would admit it on that list "))
         mended = dict(listed)
         for words, amount, before in ENTRY.findall(row):
@@ -157,7 +157,7 @@ class Advice(unittest.TestCase):
         self.check_winners(rows, "with that list", after)
 
     def check_winners(self, rows: Sequence[str], head: str, after: Auction) -> None:
-        """The winners below the head are those of the auction that follows the advice."""
+        """The winners below the head are the winners of the auction that follows the advice."""
         book = after.need_book()
         choice, value = winning_choice(book)
         lines = [

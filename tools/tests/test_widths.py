@@ -22,7 +22,7 @@ niche = { name = "Niche 📱" }
 """
 # Letters of two columns: East Asian ideographs, kana, Hangul syllables, and emoji.
 WIDE = range(0x4E00, 0xA000), range(0x3040, 0x3100), range(0xAC00, 0xD7A4), range(0x1F300, 0x1FB00)
-VOWEL = "\u0947"  # it stands over the letter before it
+VOWEL = "\u0947"  # it is written over the letter before it
 
 
 def seen(text: str) -> int:
