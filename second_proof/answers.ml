@@ -1,9 +1,9 @@
-(* The answers of the checker, for a command line and for a browser: [run host words] is the text that is printed for these words, and
-   the status.
+(* The answers of the checker, for a command line and for a browser: [run host words] returns the text that is printed for these arguments,
+   and the status.
 
-   The answers are Coq's, with their words. What is written by hand reads the files: it says which text isn't of its form, by
-   docs/FORMATS.md and docs/CERTIFICATES.md alone, and proposes what the others state. An answer on the tests counts only if Coq
-   prints what was proposed as the bytes of the files. Awards and logs have to be in their plain spelling.
+   The answers and their texts are Coq's. The part that is written by hand reads the files: it reports which text isn't of its form, only by
+   docs/FORMATS.md and docs/CERTIFICATES.md, and proposes what the others state. An answer on the tests counts only if Coq prints what was
+   proposed as the bytes of the files. Awards and logs have to be in their plain spelling.
 
    No number of OCaml here is above 2^30: in a browser they have 32 bits. *)
 open Tests
@@ -142,7 +142,7 @@ let rec read_bids r supply reserve bids =
     read_bids r supply reserve (bid :: bids)
   | other -> (List.rev bids, other)
 
-(* the names and bids of the bidders; those of [bidders] have been read, the last one first *)
+(* the names and bids of the bidders; [bidders] have been read, the last one first *)
 let rec read_bidders r supply reserve bidders fields =
   match fields with
   | [ "end" ] -> List.rev bidders
@@ -215,7 +215,7 @@ let read_slots text =
 
 (* ---- the certificate ---- *)
 
-(* what differs between both kinds: whether a choice has an order before it, and how many lines and entries a table has *)
+(* what differs between the two kinds: whether a choice has an order before it, and how many lines and entries a table has *)
 type kind = { bidders : int; has_orders : bool; lines : int; entries : int }
 
 let read_numbers r kind name =
@@ -236,7 +236,7 @@ let read_table r kind name =
 
 let read_one r name = match line r with [ w; s ] when w = name -> signed r s | _ -> bad r
 
-(* an order counts bidders from 1 in the file; a number that names no bidder there names none here *)
+(* in the file an order counts bidders from 1; a number without a bidder in the file has none here *)
 let order_of order = List.map (fun k -> nat_of (if k = 0 then 65536 else k - 1)) order
 
 let read_without r kind j =
@@ -412,7 +412,7 @@ let log_of text = if has_short_fields text then read_log_long text else None
 let award_of_file = text_of_file ' '
 let log_of_file = text_of_file ','
 
-(* a line is a record of a plain log; what is wrong with an earlier one is said first *)
+(* a line is a record of a plain log; a fault of an earlier line is reported first *)
 let within_records award log =
   let most = 100_000 in
   if List.compare_length_with log most > 0 then

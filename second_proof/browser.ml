@@ -1,7 +1,7 @@
 (* The checker in a browser, and in node. It gives JavaScript the function cca(words, load, step), which returns { text, status }: the text
-   that is printed for these words, and the status; or { fault }, if there is no answer. load(most, name) returns the bytes of a file as a
-   Uint8Array, or null if there are none; step(name) is called at each step of Answers.host. The words "award-line AWARD" and
-   "log-line AWARD LOG" answer by spelling.ml. *)
+   that is printed for these arguments, and the status. It returns { fault } if there is no answer. load(most, name) returns the bytes of a
+   file as a Uint8Array, or null if there are none; step(name) is called at each step of Answers.host. spelling.ml answers the arguments
+   "award-line AWARD" and "log-line AWARD LOG". *)
 open Js_of_ocaml
 
 let called f arguments = Js.Unsafe.fun_call f arguments

@@ -1,7 +1,7 @@
 (* checker check BOOK CERT | weigh-check BOOK WEIGHTS CERT | place-check SLOTS CERT | audit AWARD LOG CERT | auction AWARD LOG
 
-   Prints what cca prints of the same words; "auction" prints the book after the replies. The status is the one of cca, and 70 if there
-   is not enough memory. The head of answers.ml says what of it has to be believed. *)
+   Prints what cca prints for the same arguments; "auction" prints the book after the replies. The status is the one of cca, and 70 if there
+   is not enough memory. The comment at the top of answers.ml states which part has to be believed. *)
 
 (* the bytes of a file, read in order to its end, or until there are more than [most] *)
 let load most name =

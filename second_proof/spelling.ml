@@ -1,7 +1,7 @@
-(* What a page shows beside a refusal. Nothing here has to be believed: an answer is about the bytes that the checker was given. *)
+(* What a page shows next to a refusal. Nothing here has to be believed: an answer is about the bytes that the checker was given. *)
 open Tests
 
-(* the number of the first of these numbered lines that isn't as [printed] has it, or 0 *)
+(* the number of the first of these numbered lines that differs from [printed], or 0 *)
 let rec first_difference lines printed =
   match (lines, printed) with
   | [], [] -> 0
@@ -9,13 +9,13 @@ let rec first_difference lines printed =
   | (number, _) :: _, _ -> number
   | [], _ :: _ -> 0
 
-(* the number of the first line of an award that isn't as the plain spelling of what is read has it, or 0 if nothing can be read *)
+(* the number of the first line of an award that differs from the plain spelling of what is read, or 0 if nothing can be read *)
 let award_line award =
   let kept i line = List.map (fun fields -> (i + 1, fields)) (without_comments [ line ]) in
   let lines = List.concat (List.mapi kept (Answers.award_of_file award)) in
   match Answers.award_of (List.map snd lines) with None -> 0 | Some a -> first_difference lines (award_text a)
 
-(* the number of the first line that states nothing by itself in a log of this award, or 0 *)
+(* the number of the first line in a log of this award that on its own states nothing, or 0 *)
 let log_line award log =
   match plain_award Answers.award_of (Answers.award_of_file award) with
   | None -> 0

@@ -45,7 +45,7 @@ def temporary_folder() -> Iterator[pathlib.Path]:
 
 
 def words() -> argparse.Namespace:
-    """The words of the call."""
+    """The arguments of the call."""
     parser = argparse.ArgumentParser(
         prog="second_proof/audit",
         usage="%(prog)s [--plain FOLDER] [--keep FILE.v] (AWARD LOG CERT | BOOK CERT | BOOK WEIGHTS CERT | SLOTS CERT)",

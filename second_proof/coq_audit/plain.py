@@ -20,7 +20,7 @@ TABLES = {
 
 
 class NotPlain(Exception):
-    """A text that has no plain spelling; the argument says why, in words for its reader."""
+    """A text that has no plain spelling; the argument explains why."""
 
 
 class NotToml(NotPlain):
@@ -28,7 +28,7 @@ class NotToml(NotPlain):
 
 
 def spelled(value: object) -> str:
-    """A value of an award as it is written plainly."""
+    """A value of an award in its plain spelling."""
     if isinstance(value, str):
         if not (value.isascii() and value.replace("_", "").isalnum()):
             raise NotPlain(f"{value!r} is no name")
@@ -82,7 +82,7 @@ def plain_award(file: bytes) -> bytes:
 
 
 def without_comments(file: bytes) -> bytes:
-    """An award without its comments, as Comments.v says; as it is where that has a control character."""
+    """An award without its comments, by the rules of Comments.v; unchanged if it has a control character."""
     text, kept = file.decode(), []
     if any(sign < " " and sign != "\n" or sign == "\x7f" for sign in text):
         return file

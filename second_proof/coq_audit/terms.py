@@ -14,7 +14,7 @@ def number_term(number: str) -> str:
 
 
 class Terms:
-    """The definitions of a file of Coq, as they are made."""
+    """The definitions of a file of Coq, in the order of their making."""
 
     def __init__(self) -> None:
         self.definitions = [
@@ -25,7 +25,7 @@ class Terms:
         self.lines: dict[tuple[str, ...], str] = {}
 
     def field(self, field: str) -> str:
-        """The name of a field, which is its own where it has letters and digits alone."""
+        """The name of a field, which contains the field if that has only letters and digits."""
         if field not in self.fields:
             name = f"f_{field}" if field.isalnum() and field.isascii() else f"g_{len(self.fields)}"
             self.fields[field] = name

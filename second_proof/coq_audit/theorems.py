@@ -1,4 +1,4 @@
-"""The theorems that an audit states, as Coq has them and in words."""
+"""The theorems that an audit states, in Coq and in English."""
 
 import dataclasses
 
@@ -81,19 +81,20 @@ def kind_of(first: bytes, count: int) -> Kind | None:
 
 
 def yes_term(terms: Terms, printed: list[str]) -> str:
-    """What Coq has to answer where it says yes and prints these lines."""
+    """The expected answer of Coq if it accepts and prints these lines."""
     lines = [terms.line(line.split(" ")) for line in printed]
     terms.definitions.append(f"Definition printed : text := [{'; '.join(lines)}].")
     return '["yes"] :: printed'
 
 
 def no_term(test: str, place: str) -> str:
-    """What Coq has to answer where a test, as C8, fails at a place."""
+    """The expected answer of Coq if a test, such as C8, fails at a place."""
     return f'[["no"; "{test[0]}" ^^ nat_num {test[1]}%nat; num {number_term(place)}]]'
 
 
 def proof(kind: Kind, files: list[bytes], said: list[str]) -> str:
-    """A file of Coq: the bytes of the files, that Coq answers what was said, and what follows from it."""
+    """A file of Coq: the bytes of the files, the theorem that Coq's answer is the given one, and what follows from
+    it."""
     terms = Terms()
     for name, file, separator in zip(kind.files, files, kind.separators, strict=True):
         terms.text(f"{name}_file", file, separator)
@@ -109,7 +110,7 @@ def proof(kind: Kind, files: list[bytes], said: list[str]) -> str:
 
 
 def in_words(kind: Kind, said: list[str]) -> str:
-    """What the kernel has accepted, in words."""
+    """What the kernel has accepted, in English."""
     if said[0] == "yes":
         values = dict(line.split(" ", 1) for line in said[-2:])
         return kind.words.format(net=values.get("net") or values["value"], revenue=values["revenue"])

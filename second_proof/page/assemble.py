@@ -1,4 +1,4 @@
-"""Assembles the page: one file, in which a browser runs only the script and the style with these checksums.
+"""Assembles the page: one file, where a browser runs only the script and the style with these checksums.
 
 usage: assemble.py CHECKER.js > audit.html
 """

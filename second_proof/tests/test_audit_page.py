@@ -1,6 +1,6 @@
 """The page that audits an auction in a browser: what it is made of, its checker in node, and the page in Chromium.
 
-Expected answers are those of `vectors/`, of the documents, and of the native checker, which the same proof gives.
+Expected answers come from `vectors/`, from the documents, and from the native checker, which has the same proof.
 """
 
 from __future__ import annotations
@@ -61,7 +61,7 @@ NODE = shutil.which("node") or shutil.which("nodejs")
 
 
 def setUpModule() -> None:
-    """Builds the page, or says what is skipped; unittest names that only if it is called with -v."""
+    """Builds the page, or reports what is skipped; unittest names that only with -v."""
     if MISSING:
         print(WITHOUT_PAGE, file=sys.stderr)
         return
@@ -84,7 +84,7 @@ def loaded(name: str, path: pathlib.Path) -> types.ModuleType:
 
 
 class Case(typing.NamedTuple):
-    """A case of vectors/: its name, the words of the run, and the text and the status that it has to end with."""
+    """A case of vectors/: its name, the arguments of the run, and the text and the status that it has to end with."""
 
     name: str
     words: list[str]
@@ -122,7 +122,7 @@ class Script(unittest.TestCase):
             assemble.need_script("a script", 'x = "</SCRIPT>"')
 
     def test_words(self) -> None:
-        """The page has words for each test of docs/CERTIFICATES.md and for each reply of docs/FORMATS.md."""
+        """The page has a text for each test of docs/CERTIFICATES.md and for each reply of docs/FORMATS.md."""
         words = (SECOND / "page" / "words.js").read_text()
         tests, replies = (re.search(rf"const {name} = \{{\n(.*?)\n\}}", words, re.S) for name in ("TESTS", "REPLIES"))
         assert tests and replies
@@ -233,7 +233,7 @@ class Screen(browser.Browser):
         self.until(f"at('files').children.length === {len(paths)}")
 
     def call_them(self, kinds: typing.Sequence[str]) -> None:
-        """Says of each file what it is, by the list beside its name."""
+        """Chooses the kind of each file, in the list next to its name."""
         for number, kind in enumerate(kinds):
             self.evaluate(
                 f"""{{ const kind = document.querySelectorAll('#files select')[{number}]
@@ -334,7 +334,7 @@ class InChromium(unittest.TestCase):
         self.assertEqual(wanted, set())
 
     def test_yes(self) -> None:
-        """A yes of a book, of weights and of slots."""
+        """An acceptance for a book, for weights and for slots."""
         for command in ("check", "weigh-check", "place-check"):
             case = next(case for case in self.cases if case.words[0] == command and case.status == 0)
             with self.subTest(case=case.name):
@@ -417,7 +417,7 @@ class InChromium(unittest.TestCase):
         self.assertNotIn("published", shown[1])
 
     def test_missing_and_double(self) -> None:
-        """The page says which file is missing, and which two are taken for the same thing."""
+        """The page reports which file is missing, and which two have the same kind."""
         for paths, sentence in (
             (SAMPLE[:2], "Missing: the certificate."),
             ([SAMPLE[2]], "Missing: the award and the log of the auction, or else its book, or its slots."),
@@ -433,7 +433,7 @@ class InChromium(unittest.TestCase):
             self.assertTrue(self.screen.evaluate("at('start').disabled"))
 
     def test_keys(self) -> None:
-        """By keys alone: from the input over each file to the button, and to the answer."""
+        """Only by keys: from the input over each file to the button, and to the answer."""
         self.screen.choose(*SAMPLE)
         self.screen.evaluate("at('choose').focus(); null")
         passed: list[str] = []
@@ -464,7 +464,7 @@ class InChromium(unittest.TestCase):
         self.assertEqual(self.screen.tested(*SAMPLE).heading[:3], "Yes")
 
     def test_widths(self) -> None:
-        """No width from 400 to 1,280 needs a scroll to the side, in light and dark; nor has a table one of its own."""
+        """No width from 400 to 1,280 needs a scroll to the side, in light and dark. No table needs one of its own."""
         tables = "[...document.querySelectorAll('.wide')].filter(it => it.scrollWidth > it.clientWidth + 1).length"
         self.screen.tested(*SAMPLE)
         for width in (400, 640, 820, 1280):
@@ -477,7 +477,7 @@ class InChromium(unittest.TestCase):
         self.screen.size(1000)
 
     def test_labels(self) -> None:
-        """Each control has a name for those who don't see it."""
+        """Each control has a name for users who don't see it."""
         self.screen.choose(*SAMPLE)
         self.screen.call("Accessibility.enable")
         nodes = self.screen.call("Accessibility.getFullAXTree")["nodes"]

@@ -1,4 +1,4 @@
-"""The second proof: the definitions that docs/SECOND_PROOF.md names, and where Coq is installed its build and audits of
+"""The second proof: the definitions that docs/SECOND_PROOF.md names, and if Coq is installed, its build and audits of
 the sample."""
 
 import csv
@@ -43,7 +43,8 @@ def sum_of_sources() -> str:
 
 
 def built_once() -> str:
-    """What the build of these sources says. It is kept beside what was built, so that only a change is proved again."""
+    """The output of the build of these sources. It is kept next to what was built, so that only a change is proved
+    again."""
     kept, made_of = SECOND / "built" / "said", sum_of_sources()
     if kept.exists() and kept.read_text().startswith(made_of):
         return kept.read_text().removeprefix(made_of)
@@ -55,7 +56,7 @@ def built_once() -> str:
 
 
 def setUpModule() -> None:
-    """Says what is skipped: unittest names it only when it is called with -v."""
+    """Reports what is skipped: unittest names it only with -v."""
     if not HAS_COQ:
         print(NEEDED, file=sys.stderr)
 
@@ -92,7 +93,7 @@ class Plain(unittest.TestCase):
     """The plain spelling of an award and of a log."""
 
     def test_award(self) -> None:
-        """Comments go, and what is plain stays as it is."""
+        """Comments are removed, and plain text stays unchanged."""
         plain = plain_award(AWARD.read_bytes())
         self.assertNotIn(b"#", plain)
         self.assertIn(b'\n\n[[bidder]]\nname = "everest"\neligibility = 80\nholding = [2, 0, 0, 0]\n', plain)
@@ -148,7 +149,7 @@ class Plain(unittest.TestCase):
         self.assertEqual(plain_files([award, b"a", b""])[1], b"a\n")
 
     def test_limit_of_fields(self) -> None:
-        """Reading a log leaves csv's limit of a field as it was."""
+        """Reading a log leaves csv's limit of a field unchanged."""
         limit = csv.field_size_limit()
         plain_log(LOG.read_bytes())
         with self.assertRaises(NotPlain):
@@ -201,7 +202,7 @@ class SecondProof(unittest.TestCase):
         cls.folder.cleanup()
 
     def test_no_assumptions(self) -> None:
-        """The headline, and what an audit says, rest on nothing."""
+        """The headline, and the theorems of an audit, have no assumptions."""
         said = self.built.splitlines()
         for theorem in (
             "headline",
@@ -217,7 +218,7 @@ class SecondProof(unittest.TestCase):
             self.assertIn(f"{theorem}: Closed under the global context", said)
 
     def test_comments(self) -> None:
-        """The sample has comments, which Coq takes away itself: the yes is of its bytes."""
+        """The sample has comments, which Coq itself takes away: the acceptance is about its bytes."""
         status, printed = ended(SECOND / "audit", AWARD, LOG, CERT)
         self.assertEqual((status, printed[:4]), (0, "yes\n"))
         self.assertIn(
@@ -226,7 +227,7 @@ class SecondProof(unittest.TestCase):
         self.assertNotIn("otherwise", printed)
 
     def test_another_spelling(self) -> None:
-        """Of an award in another spelling the audit says so, and its advice leads to a yes of the bytes."""
+        """The audit reports an award in another spelling, and its advice leads to an acceptance of the bytes."""
         status, printed = self.other
         self.assertEqual((status, printed[:4]), (9, "yes\n"))
         self.assertIn("the plain spelling of the award, and your file is spelled otherwise", printed)
@@ -234,7 +235,7 @@ class SecondProof(unittest.TestCase):
         self.assertEqual((status, printed[:4]), (0, "yes\n"))
 
     def test_no_verdict(self) -> None:
-        """What isn't a yes or a no of the kernel never ends with their statuses."""
+        """A run without an acceptance or a rejection by the kernel never ends with their statuses."""
         folder = pathlib.Path(self.folder.name)
         newer, odd = folder / "newer.award", folder / "odd.award"
         newer.write_text(AWARD.read_text().replace("tick = 100", 'tick = 100\nx = "\\e"'))
@@ -301,7 +302,7 @@ class SecondProof(unittest.TestCase):
                 self.assertEqual(audited, (status, said))
 
     def test_long_logs(self) -> None:
-        """The limit of records, after a fault of an earlier one; and numbers that are too long for any log."""
+        """The limit of records, after a fault of an earlier one, and numbers that are too long for any log."""
         log, bid = pathlib.Path(self.folder.name) / "long.log", "bid,everest,0 0 0 1,\n"
         for text, status, said in (
             (bid * 100_000, 3, "cca: refused log 100001\n"),
@@ -318,7 +319,7 @@ class SecondProof(unittest.TestCase):
                 self.assertEqual(audited, (status, said))
 
     def test_no_room(self) -> None:
-        """A checker that runs out of stack gives no verdict, and its status isn't the one of a no."""
+        """A checker that runs out of stack has no verdict, and its status isn't the status of a rejection."""
         award = pathlib.Path(self.folder.name) / "many.award"
         head, step, rest = (self.plain / "award").read_text().partition("\n[[step]]")
         bidders = (f'\n[[bidder]]\nname = "b{number}"\neligibility = 8\n' for number in range(1500))
