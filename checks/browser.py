@@ -1,5 +1,4 @@
-"""A headless Chromium, told what to do through two pipes (its DevTools protocol), with nothing but Python's own
-library."""
+"""A headless Chromium, controlled through two pipes (its DevTools protocol), with nothing but Python's own library."""
 
 from __future__ import annotations
 
@@ -114,7 +113,7 @@ class Browser:
             file.write(base64.b64decode(data))
 
     def printed(self, path: str | os.PathLike[str]) -> None:
-        """The page as it is printed on A4."""
+        """The page printed on A4."""
         data = self.call(
             "Page.printToPDF",
             paperWidth=8.27,

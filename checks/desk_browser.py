@@ -1,7 +1,7 @@
 """The desk as its users have it: the program `tools/desk` in a process of its own, and a real browser that has hands.
 
-Links and buttons are found by their words and hit where they lie, so one that is covered or can't be seen is a fault.
-By keys alone, nothing but the focus says where one is. Nothing of the desk's code is used here.
+Links and buttons are found by their labels and hit at their position, so one that is covered or can't be seen is a
+fault. With only keys, nothing but the focus shows where the user is. Nothing of the desk's code is used here.
 """
 
 from __future__ import annotations
@@ -63,7 +63,7 @@ class Desk:
         self.process.communicate()
 
     def end(self) -> str:
-        """Ends it by Ctrl-C, and gives what it said at last, without the line about its program's proof."""
+        """Ends it by Ctrl-C, and returns what it printed at last, without the line about its program's proof."""
         self.process.send_signal(signal.SIGINT)
         said, faults = self.process.communicate(timeout=SECONDS)
         about = "The program: ", "! NOT PROVED: ", "! Up to "
@@ -79,7 +79,7 @@ class Screen(browser.Browser):
         self.size(WIDTH, HEIGHT)
 
     def close(self) -> None:
-        """Ends the browser, also where it takes too long to end on its own."""
+        """Ends the browser, also if it takes too long to end on its own."""
         try:
             super().close()
         except subprocess.TimeoutExpired:
@@ -96,7 +96,7 @@ class Screen(browser.Browser):
         return self.ask("document.querySelector('h1').innerText.trim()")
 
     def text(self) -> str:
-        """What the page says."""
+        """The text of the page."""
         return self.ask("document.querySelector('main').innerText")
 
     def texts(self, places: str) -> list[str]:
@@ -109,15 +109,15 @@ class Screen(browser.Browser):
         return self.ask(f"document.getElementById({field!r}).value")
 
     def focus(self) -> str:
-        """Where the focus is: the name of a field, or the words of a link, a button or a heading. It comes to a page a
-        moment after the page is there."""
+        """The place of the focus: the name of a field, or the label of a link, a button or a heading. The focus reaches
+        a page a moment after the page is there."""
         end = time.monotonic() + 5
         while (place := self.focus_now()) == "nothing" and time.monotonic() < end:
             time.sleep(0.01)
         return place
 
     def focus_now(self) -> str:
-        """Where the focus is now."""
+        """The place of the focus now."""
         return self.ask(
             "(it => it.id && it.labels ? it.id : it === document.body ? 'nothing' : it.innerText.trim())"
             "(document.activeElement)"
@@ -144,7 +144,7 @@ class Screen(browser.Browser):
             return False
 
     def new_tab(self) -> str:
-        """Opens another tab, and goes there. Gives the tab that is left."""
+        """Opens another tab, and goes there. Returns the tab that it leaves."""
         left = str(self.session)
         self.session = None
         target = self.call("Target.createTarget", url="about:blank")["targetId"]
@@ -154,7 +154,7 @@ class Screen(browser.Browser):
         return left
 
     def go_to_tab(self, tab: str) -> str:
-        """Goes to another tab. Gives the one that is left."""
+        """Goes to another tab. Returns the one that it leaves."""
         left, self.session = str(self.session), tab
         self.call("Page.bringToFront")
         return left
@@ -162,7 +162,7 @@ class Screen(browser.Browser):
     # The mouse.
 
     def at(self, finder: str) -> tuple[float, float]:
-        """The middle of a part of the page, once it is in sight and nothing lies over it."""
+        """The middle of a part of the page, once it is in sight and nothing covers it."""
         found = self.evaluate(
             f"(it => {{ if (!it) return null; it.scrollIntoView({{block: 'center'}});"
             " const box = it.getClientRects()[0], x = box.x + box.width / 2, y = box.y + box.height / 2;"
@@ -181,7 +181,7 @@ class Screen(browser.Browser):
                 self.call("Input.dispatchMouseEvent", type=kind, x=x, y=y, button="left", clickCount=count)
 
     def push(self, words: str, within: str = "body", times: int = 1) -> None:
-        """Clicks the link or button with these words, which leads to another page."""
+        """Clicks the link or button with this label, which leads to another page."""
         finder = (
             f"[...document.querySelector({within!r}).querySelectorAll('a, button')]"
             f".find(it => it.innerText.trim() === {words!r})"
@@ -205,7 +205,7 @@ class Screen(browser.Browser):
         self.replace(text)
 
     def replace(self, text: str) -> None:
-        """Types a text instead of what the field with the focus has."""
+        """Types a text instead of the present text of the field with the focus."""
         self.press("a", modifiers=2, commands=["selectAll"])
         self.press("Delete") if not text else self.call("Input.insertText", text=text)
 
@@ -217,7 +217,7 @@ class Screen(browser.Browser):
         self.call("Input.dispatchKeyEvent", type="keyUp", key=key, windowsVirtualKeyCode=code_of(key))
 
     def down(self, key: str, **how: object) -> None:
-        """Presses a key; while it is held it comes again and again with `autoRepeat`."""
+        """Presses a key. While a key is down, it is repeated with `autoRepeat`."""
         is_sign = len(key) == 1 and not how.get("commands")
         text = {"text": "\r" if key == "Enter" else key} if is_sign or key == "Enter" else {}
         kind = "keyDown" if text else "rawKeyDown"
@@ -229,7 +229,7 @@ class Screen(browser.Browser):
             self.press(sign)
 
     def tab_to(self, place: str) -> int:
-        """Presses Tab until the focus is at a field, or at the words of a link or button. Gives how often."""
+        """Presses Tab until the focus is at a field, or at a link or button with this label. Returns how often."""
         for count in range(80):
             if self.focus() == place:
                 return count
@@ -237,13 +237,14 @@ class Screen(browser.Browser):
         raise AssertionError(f"no Tab leads to {place!r} on {self.heading()!r}")
 
     def enter(self, place: str) -> int:
-        """Goes to a link or a button by Tab, and presses Enter, which leads to another page. Gives how many Tabs."""
+        """Goes to a link or a button by Tab, and presses Enter, which leads to another page. Returns the number of
+        Tabs."""
         count = self.tab_to(place)
         self.changes(lambda: self.press("Enter"))
         return count
 
     def hold_enter(self, heading: str) -> None:
-        """Holds Enter until a page with this heading is there, and a second more: the key comes again and again."""
+        """Holds Enter until a page with this heading is there, and a second more: the key is repeated."""
         end = time.monotonic() + SECONDS
         self.down("Enter")
         while not self.has_heading(heading):

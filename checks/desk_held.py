@@ -1,5 +1,6 @@
-"""An auction that is held at the desk in a browser: each of its lines is typed, answered, written and looked for on the
-disk. What each page has to say comes from the log that is held, and from the program's replies to all of it at once.
+"""An auction that is held at the desk in a browser: each of its lines is typed, gets a reply, is written, and is looked
+for on the disk. The expected texts of each page come from the expected log, and from the program's replies to all of it
+at once.
 """
 
 from __future__ import annotations
@@ -52,7 +53,7 @@ def seal_of(line: str) -> str:
 
 
 class Auction:
-    """An auction with the log that it has to come to. `see` is called with the name of each screen that it comes to."""
+    """An auction with its expected log. `see` is called with the name of each screen that it reaches."""
 
     def __init__(
         self,
@@ -70,7 +71,7 @@ class Auction:
         self.know(log)
 
     def know(self, log: bytes) -> None:
-        """Takes the log that the auction has to come to."""
+        """Takes the expected log of the auction."""
         self.records = log.decode().splitlines()
         self.replies = replies_of(self.award_path, log) if log else []
         check("replies", len(self.replies), len(self.records))
@@ -117,11 +118,11 @@ class Auction:
         return self.log_path.read_bytes()
 
     def need_log(self, count: int) -> None:
-        """Stops if the log hasn't just this many of the lines that it has to come to."""
+        """Stops if the log isn't exactly this many lines of the expected log."""
         check(f"the log after {count} lines", self.log(), self.prefix(count))
 
     def prefix(self, count: int) -> bytes:
-        """The first lines that the log has to come to."""
+        """The first lines of the expected log."""
         return "".join(f"{record}\n" for record in self.records[:count]).encode()
 
     def begin_with(self, count: int) -> None:
@@ -141,7 +142,7 @@ class Auction:
         return bool(self.screen.evaluate(script))
 
     def preview(self, records: list[str]) -> list[str]:
-        """Asks for the replies to lines: one by the form where that has them, others as text. Gives what is replied."""
+        """Asks for the replies to lines: one by the form if that offers it, others as text. Returns the replies."""
         kind, bidder, package, amount = records[0].split(",")
         if len(records) == 1 and self.offers("kind", kind) and self.offers("bidder", bidder):
             self.fill_form(kind, bidder, package, amount)
@@ -160,7 +161,7 @@ class Auction:
             self.screen.fill("amount", amount)
 
     def replied(self) -> list[str]:
-        """The replies on the page, in the program's words."""
+        """The replies on the page, as the program prints them."""
         return [{"admitted": "ok"}.get(it, it) for it in self.screen.texts("main .lines b")]
 
     def write(self, first: int, last: int) -> None:
@@ -173,7 +174,7 @@ class Auction:
         self.need_written(first, last)
 
     def button(self, replies: list[str]) -> str:
-        """The words of the button that writes lines with these replies."""
+        """The label of the button that writes lines with these replies."""
         many = len(replies) > 1
         if any(reply != "ok" for reply in replies):
             return "The bidders sent these: write them" if many else "The bidder sent this: write it"
@@ -191,7 +192,7 @@ class Auction:
     # Closes.
 
     def words_of(self, number: int) -> tuple[str, str, str]:
-        """The question of the close that is this line, what is typed for it, and its button."""
+        """The question of the close with this line, what is typed for it, and its button."""
         reply = self.replies[number - 1]
         if reply == "sealed":
             return "End the clock?", "end the clock", "End the clock"
@@ -215,7 +216,7 @@ class Auction:
         self.screen.push("Go on")
 
     def close_only(self, number: int) -> None:
-        """Closes, and stays on the page that says so."""
+        """Closes, and stays on the page that reports the close."""
         self.ask_close(number)
         self.need_log(number - 1)
         self.screen.push(self.words_of(number)[2])
@@ -267,7 +268,7 @@ class Auction:
         self.home()
 
     def end(self) -> None:
-        """Awards, makes the report and the set by their buttons, and tests what came of it."""
+        """Awards, makes the report and the set by their buttons, and tests the result."""
         for step, button in STEPS.items():
             self.see(f"closed-{step}")
             self.screen.push(button)

@@ -1,7 +1,7 @@
 """Whole auctions that are held at the desk in a browser, each with something that goes wrong on such a day.
 
-The log that each one has to come to is written down before it is held: that of the sample, of the drill, or one of this
-file. A scene raises `AssertionError` where anything differs.
+The expected log of each one is written down before it is held: the sample's, the drill's, or one of this file. A scene
+raises `AssertionError` if anything differs.
 """
 
 from __future__ import annotations
@@ -89,7 +89,7 @@ def lines(text: str) -> bytes:
     return "".join(f"{line}\n" for line in text.split(" / ")).encode()
 
 
-# Each slip of the writer is mended by one more line: of west in rounds 1 and 2, of east's amount, of west's whole list.
+# One more line corrects each mistake of the writer: of west in rounds 1 and 2, of east's amount, of west's whole list.
 SLIPS = lines(
     "bid,east,2 1, / bid,north,3 0, / bid,north,1 1, / bid,west,2 0, / bid,west,1 1, / close,,, / bid,east,1 2, / "
     "bid,west,0 1, / bid,west,0 0, / bid,north,1 1, / bid,west,0 1, / close,,, / bid,east,1 1, / bid,north,1 1, / "
@@ -106,7 +106,7 @@ KEYS = lines(
     "close,,, / draft,east,1 1,40 / submit,east,, / draft,north,1 1,33 / submit,north,, / draft,west,0 1,7 / "
     "submit,west,, / close,,,"
 )
-# West's line in round 1 is a slip that the next one corrects, and its first draft is below the reserve.
+# West's line in round 1 is a mistake that the next one corrects, and its first draft is below the reserve.
 SHORT = lines(
     "bid,east,2 1, / bid,north,1 1, / bid,west,0 1, / bid,west,1 1, / close,,, / bid,east,1 1, / bid,north,1 1, / "
     "bid,west,0 1, / close,,, / draft,east,1 1,40 / submit,east,, / draft,north,1 1,33 / submit,north,, / "
@@ -153,7 +153,7 @@ def fault_of_form(held: Auction) -> None:
 
 
 def wrong_words(held: Auction, number: int) -> None:
-    """A close for which other words are typed isn't written."""
+    """A close isn't written if the typed words are wrong."""
     held.ask_close(number)
     held.screen.fill("typed", "99")
     held.screen.push(held.words_of(number)[2])
@@ -164,7 +164,7 @@ def wrong_words(held: Auction, number: int) -> None:
 
 
 def correct(held: Auction, number: int) -> None:
-    """A refused line comes back as it was typed, and is in no log."""
+    """A refused line comes back as it was typed, and isn't in the log."""
     record = held.records[number - 1]
     check("the reply", held.preview([record]), [held.replies[number - 1]])
     check("the focus of a preview", held.screen.focus(), held.screen.heading())
@@ -195,7 +195,7 @@ def see_before_close(held: Auction, number: int) -> None:
 
 
 def see_page(held: Auction, bidder: str, name: str) -> None:
-    """The page of a bidder: it has its own lines and those of nobody else."""
+    """The page of a bidder: it has only its own lines."""
     held.screen.push(bidder)
     check("the heading", held.screen.heading(), bidder)
     own = [it for it in held.screen.texts(".lines code") if it != "close,,,"]
@@ -238,7 +238,8 @@ def drill(screen: Screen, see: See) -> str:
 
 
 def slips(screen: Screen, see: See) -> str:
-    """Slips of the writer: corrected before they are written, dropped, and mended by one more line. With names."""
+    """Mistakes of the writer: corrected before they are written, dropped, and corrected by one more line. With
+    names."""
     with tempfile.NamedTemporaryFile("w", suffix=".toml") as names:
         names.write(NAMES)
         names.flush()
@@ -281,7 +282,7 @@ def drop(held: Auction, record: str) -> None:
 
 
 def tie(screen: Screen, see: See) -> str:
-    """Two bidders offer the same for the one lot, and the page names the tie."""
+    """Two bidders offer the same amount for the only lot, and the page names the tie."""
     held = Auction(screen, ONE_LOT, TIE, see=see)
     held.start()
     held.note_first()
@@ -316,7 +317,7 @@ def doubled(screen: Screen, see: See) -> str:
 
 
 def hold_lines(held: Auction, first: int, last: int) -> None:
-    """Takes the lines before a close at once as text, and then comes to the page of the desk."""
+    """Opens the page of the desk, and takes the lines before a close at once as text."""
     held.home()
     held.write(first, last)
 
@@ -339,7 +340,7 @@ def reload(held: Auction, number: int) -> None:
 
 
 def back(held: Auction, number: int) -> None:
-    """The page of the close is gone back to, and sent again as it is there."""
+    """Goes back to the page of the close, and sends it again without a change."""
     held.close_only(number)
     held.screen.changes(lambda: held.screen.evaluate("history.back()"))
     title, words, button = held.words_of(number)
@@ -415,7 +416,8 @@ def kill_at_preview(held: Auction, number: int) -> None:
 
 
 def kill_at_write(held: Auction, number: int, after: float) -> bool:
-    """A kill while a line or a close is written; it is sent again where it isn't in the log. Says whether it was."""
+    """A kill while a line or a close is written; it is sent again if it isn't in the log. Returns whether it was in the
+    log."""
     is_close = held.is_close(number)
     if is_close:
         held.ask_close(number)
@@ -472,7 +474,7 @@ def cut(screen: Screen, see: See) -> str:
 
 
 def short(screen: Screen, see: See) -> str:
-    """What the gate holds: a slip, a refused line, and a round that is held again."""
+    """The auction of the merge gate: a mistake, a refused line, and a round that is held again."""
     held = Auction(screen, SMALL, SHORT, see=see)
     check("a refused line", held.replies[13] == "ok", False)
     held.start()
@@ -496,7 +498,7 @@ def write_wrong(held: Auction, record: str) -> None:
 
 
 def wrong_close(held: Auction, count: int) -> None:
-    """Ends the clock one round too soon, and goes back to the page of that close with its words."""
+    """Ends the clock one round too soon, and goes back to the page of that close with the typed words."""
     before = held.log()
     held.screen.push("What would a close do?")
     held.screen.fill("typed", "end the clock")
@@ -509,7 +511,7 @@ def wrong_close(held: Auction, count: int) -> None:
 
 
 def cut_after(held: Auction, number: int) -> None:
-    """Cuts the log after a close, once with the words of another one."""
+    """Cuts the log after a close, first with the typed words for another close."""
     screen, long = held.screen, held.log()
     screen.push("A round held again")
     held.see("again")
@@ -529,7 +531,7 @@ def cut_after(held: Auction, number: int) -> None:
 
 
 def stopped(screen: Screen, see: See) -> str:
-    """Other hands are at the files: a torn line, a changed line, another award. Each stop ends as its page says."""
+    """Others change the files: a torn line, a changed line, another award. Each stop ends by the steps of its page."""
     held = Auction(screen, AWARD, LOG, see=see)
     held.start()
     held.note_first()
@@ -568,8 +570,8 @@ def stopped(screen: Screen, see: See) -> str:
 
 
 def changed(screen: Screen, see: See) -> str:
-    """Somebody changes the log after a close, and the auctioneer goes on with it: not without the words, and all are
-    told."""
+    """Somebody changes the log after a close, and the auctioneer goes on with it. That needs the typed words, and the
+    room's page shows it."""
     wrong = SLIPS.replace(b"bid,west,1 1,", b"bid,west,0 1,", 1)
     held = Auction(screen, SMALL, SLIPS, see=see)
     held.log_path.touch(0o600)
@@ -707,16 +709,16 @@ def tested_by_page(held: Auction, notes: list[str]) -> list[str]:
 
 
 def need_stop(held: Auction, name: str) -> None:
-    """Stops if the page isn't that of a desk that has stopped."""
+    """Stops if the page isn't the page of a stopped desk."""
     check(name, held.screen.heading(), "The desk has stopped")
     held.see(name)
 
 
-# By keyboard alone.
+# Only by keyboard.
 
 
 def keyboard(screen: Screen, see: See) -> str:
-    """By keyboard alone, from the door to the published set: Tab, letters and Enter, which is held too."""
+    """Only by keyboard, from the door to the published set: Tab, letters and Enter, which is also held down."""
     held = Auction(screen, SMALL, KEYS, see=see)
     held.start(by_keys=True)
     tabs = 0
@@ -739,7 +741,7 @@ def keyboard(screen: Screen, see: See) -> str:
 
 
 def held_key(held: Auction) -> None:
-    """An Enter that is held leads to a preview and writes nothing, also in the field of a close."""
+    """An Enter that is held down leads to a preview and writes nothing, also in the field of a close."""
     screen = held.screen
     type_line(held, "bid,east,2 1,")
     screen.hold_enter("It would be admitted")
@@ -770,7 +772,7 @@ def slip_by_keys(held: Auction) -> None:
 
 
 def type_line(held: Auction, record: str) -> int:
-    """Types a line into its form, from the first field on. Gives how many Tabs that took."""
+    """Types a line into its form, from the first field on. Returns the number of Tabs."""
     screen, (kind, bidder, package, amount) = held.screen, record.split(",")
     check("the focus of the desk", screen.focus(), "kind")
     screen.type({"bid": "asks", "draft": "dra", "drop": "dro", "submit": "sub"}[kind])
@@ -785,7 +787,7 @@ def type_line(held: Auction, record: str) -> int:
 
 
 def line_by_keys(held: Auction, number: int, record: str) -> int:
-    """Writes a line. Gives how many Tabs that took."""
+    """Writes a line. Returns the number of Tabs."""
     screen, reply = held.screen, held.replies[number - 1]
     tabs = type_line(held, record)
     screen.changes(lambda: screen.press("Enter"))
@@ -797,7 +799,7 @@ def line_by_keys(held: Auction, number: int, record: str) -> int:
 
 
 def close_by_keys(held: Auction, number: int) -> int:
-    """Closes. Gives how many Tabs that took."""
+    """Closes. Returns the number of Tabs."""
     screen, (title, words, _) = held.screen, held.words_of(number)
     tabs = screen.enter("What would a close do?")
     check("the question", (screen.heading(), screen.focus()), (title, "typed"))
@@ -820,7 +822,7 @@ def bidder_by_keys(held: Auction) -> None:
 
 
 def rehearsal(screen: Screen, see: See) -> str:
-    """A rehearsal that writes its lines beside, and goes on after each close of the desk."""
+    """A rehearsal that writes its lines to another file, and goes on after each close of the desk."""
     folder = pathlib.Path(tempfile.mkdtemp())
     award, values, feed = EXAMPLES / "final-cap.award", EXAMPLES / "final-cap.values", folder / "lines"
     words = [sys.executable, ROOT / "tools" / "rehearse", award, values, feed, "--desk", "--fit", "--slips", "3"]
@@ -841,7 +843,7 @@ def rehearsal(screen: Screen, see: See) -> str:
 
 
 def hold_rehearsal(held: Auction) -> int:
-    """Takes what waits, one line and then all, and closes. Gives how many closes that were."""
+    """Takes what waits, one line and then all, and closes. Returns the number of closes."""
     screen, closes = held.screen, 0
     while screen.heading() != "The auction is closed":
         until(lambda: is_waiting(held), "lines of the rehearsal")

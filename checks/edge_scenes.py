@@ -1,6 +1,6 @@
-"""Scenes for runs with faults: a command, its words, and the files that they mean, right ones and odd ones.
+"""Scenes for runs with faults: a command, its arguments, and the files that they name, right ones and odd ones.
 
-What a scene has to end with, where the files alone decide it, is taken from docs/FORMATS.md.
+If the files decide how a scene has to end, the expected end is taken from docs/FORMATS.md.
 """
 
 from __future__ import annotations
@@ -64,7 +64,7 @@ INPUTS: dict[str, tuple[int, str | None]] = {
     "named pipe": (3, ""),
     "standard input": (3, ""),
 }
-# Likewise of a file that is appended to.
+# The same for a file that is appended to.
 UNWRITTEN = "cca: write fault {role}"
 OUTPUTS: dict[str, tuple[int, str | None]] = {
     "new": (40, ""),
@@ -84,7 +84,7 @@ OUTPUTS: dict[str, tuple[int, str | None]] = {
 }
 DEVICES = {"null device": "/dev/null", "full device": "/dev/full"}
 UNREADABLE = ("held in a folder that can't be read", "in a folder that can't be read")
-# Kinds of a file that is made in the same folder, whose name can't be synced either where that can't be read.
+# Kinds of a file that is made in the same folder, whose name can't be synced either if that folder can't be read.
 MADE_ASIDE = ("in a folder", "link to nothing")
 # Kinds that need permissions, which don't bind root.
 BOUND = ("no permission", *UNREADABLE)
@@ -92,7 +92,7 @@ READ_STATUS = {"cca: refused": 3, "cca: read": 4, "cca: limit": 7, "cca: write":
 
 
 class Word(NamedTuple):
-    """A word of a command that names a file: its role in the command, the kind of the file, and its text."""
+    """An argument of a command that names a file: its role in the command, the kind of the file, and its text."""
 
     role: str
     kind: str
@@ -101,7 +101,8 @@ class Word(NamedTuple):
 
 
 class Scene(NamedTuple):
-    """A command and the files of its words. `rest` are the words that name no file, by their place before or after."""
+    """A command and the files of its arguments. `rest` are the arguments that name no file, by their place before or
+    after."""
 
     command: str
     files: tuple[Word, ...]
@@ -112,7 +113,7 @@ class Scene(NamedTuple):
         return [self.command, *([self.number] if self.number else []), *map(self.name, self.files), *self.flags]
 
     def name(self, file: Word) -> str:
-        """The word for a file."""
+        """The argument for a file."""
         if file.kind == "standard input":
             return "/dev/stdin"
         if file.kind == "an input":
@@ -134,7 +135,7 @@ class Scene(NamedTuple):
         return found
 
     def needs_user(self) -> bool:
-        """Whether the files have to be those of a user whom permissions bind."""
+        """Whether the files have to belong to a user whom permissions bind."""
         return os.geteuid() == 0 and any(file.kind in BOUND for file in self.files)
 
     def given(self) -> bytes | None:
@@ -162,12 +163,11 @@ class Scene(NamedTuple):
         return found
 
     def last_line(self) -> str | None:
-        """The line with which a run without a fault has to end: nothing if it is done, and None if nobody
-        knows."""
+        """The expected last line of a run without a fault: nothing if it is done, and None if nobody knows."""
         return next((line for line in self.lines() if line != ""), "")
 
     def shown(self) -> str:
-        """The scene in words."""
+        """A description of the scene."""
         kinds = ", ".join(f"{file.role} {file.kind}" for file in self.files)
         return f"{' '.join(self.words())} ({kinds})"
 
@@ -181,7 +181,7 @@ def sample(name: str) -> bytes:
     return (EXAMPLES / name).read_bytes()
 
 
-# Texts of which the program's certificates are made, by their roles.
+# The texts for the program's certificates, by their roles.
 SOURCES: list[dict[str, bytes]] = [
     {
         "award": sample("spectrum.award"),
@@ -269,7 +269,7 @@ def drawn(rng: random.Random, right: list[dict[tuple[str, str], bytes]], command
     source, is_plain = rng.choice(right), rng.random() < 0.5
     reads, appends = COMMANDS[command]
     files: list[Word] = []
-    # (who may change the rights of files isn't bound by them)
+    # (permissions don't bind a user who may change them)
     never = [] if os.geteuid() == 0 else [*BOUND]
     for role in reads:
         left_out = [*never, *(["standard input"] if any(it.kind == "standard input" for it in files) else [])]
@@ -291,7 +291,7 @@ def drawn(rng: random.Random, right: list[dict[tuple[str, str], bytes]], command
 
 
 def put(folder: pathlib.Path, file: Word) -> None:
-    """Makes the file of a word."""
+    """Makes the file of an argument."""
     path, aside = folder / file.role, folder / "aside" / file.role
     if file.kind in ("right", "mutated", "held", "no permission"):
         path.write_bytes(file.text)
@@ -388,7 +388,7 @@ class Feeder:
 
 
 def full_pipe(text: bytes) -> int:
-    """The end to read from of a pipe that holds this text, and nobody writes to."""
+    """The reading end of a pipe that contains this text, and that nobody writes to."""
     reading, writing = os.pipe()
     fcntl.fcntl(writing, fcntl.F_SETPIPE_SZ, 2**20)
     os.set_blocking(writing, False)

@@ -24,5 +24,5 @@ def mount(source: object, path: pathlib.Path, kind: str, flags: int, options: st
 
 
 def mount_memory(path: pathlib.Path, size: int, flags: int = 0) -> bool:
-    """Whether a file system of so many bytes, in memory, could be mounted."""
+    """Whether a file system of this many bytes, in memory, could be mounted."""
     return mount("none", path, "tmpfs", flags, f"size={size}")

@@ -1,5 +1,5 @@
-"""Auctions at the desk in a browser in which a person makes the slips that people make: at 400 wide, by two people,
-with more winners than `cca award` prices, closed too early, and with lists that come as files.
+"""Auctions at the desk in a browser where a person makes mistakes that people make: at 400 wide, by two people, with
+more winners than `cca award` prices, closed too early, and with lists that come as files.
 """
 
 from __future__ import annotations
@@ -89,7 +89,7 @@ def seven(screen: Screen, see: See) -> str:
 
 
 def price_by_tools(held: Auction) -> list[list[str]]:
-    """Prices by the step that the page offers once the award has met the limit, then makes report and set. Gives the
+    """Prices by the step that the page offers once the award has met the limit, then makes report and set. Returns the
     rows of the prices on the page."""
     screen = held.screen
     screen.push("Price by tools/price")
@@ -134,7 +134,7 @@ def eight(screen: Screen, see: See) -> str:
 
 
 def published(held: Auction) -> None:
-    """The page of the set and the report say what each winner pays, who found the prices, and who judged them."""
+    """The page of the set and the report show what each winner pays, who found the prices, and who judged them."""
     screen = held.screen
     screen.load(f"file://{held.set()}/index.html")
     screen.evaluate("document.querySelectorAll('details').forEach(it => it.open = true)")
@@ -157,7 +157,7 @@ def published(held: Auction) -> None:
 
 
 def twelve(screen: Screen, see: See) -> str:
-    """A drill in which twelve bidders win: the end says by what they can be priced, and they are."""
+    """A drill where twelve bidders win: the page of the end names the tool that can price them, and it prices them."""
     with tempfile.TemporaryDirectory() as folder:
         files = [pathlib.Path(folder, name) for name in ("award", "log")]
         subprocess.run([PROGRAM, "make", "7", *files], check=True, stdout=subprocess.DEVNULL)
@@ -198,7 +198,7 @@ def choose_file(held: Auction, data: bytes) -> None:
 
 
 def csv_file(screen: Screen, see: See) -> str:
-    """A list comes as a CSV file: what is no CSV is named, faults are shown by the lines of the file, rows without one
+    """A list comes as a CSV file: what isn't CSV is named, faults are shown by the lines of the file, rows without one
     are entered while the others are kept, and the list is read back."""
     held = Auction(screen, AWARD, b"".join(LOG.splitlines(True)[:BEGUN]) + FILE_LINES, see=see)
     held.begin_with(BEGUN)
@@ -248,7 +248,8 @@ def csv_file(screen: Screen, see: See) -> str:
 
 
 def restarted(screen: Screen, see: See) -> str:
-    """The desk is killed after a close was taken back, and started again; then over a line that is none."""
+    """The desk is killed after a close was taken back, and started again. Then it starts over a line that isn't a
+    record."""
     held = Auction(screen, SMALL, KEYS, see=see)
     held.start()
     held.note_first()
@@ -300,7 +301,7 @@ def narrow_day(screen: Screen, see: See) -> str:
 
 
 def entered_again(screen: Screen, see: See) -> str:
-    """Lists are closed one bidder too early: the close alone is taken back, and a cut list is entered again."""
+    """Lists are closed one bidder too early: only the close is taken back, and a cut list is entered again."""
     held = Auction(screen, AWARD, SMALL_LIST, see=see)
     held.start()
     held.hold(range(1, 5))
@@ -364,7 +365,7 @@ def two(screen: Screen, see: See) -> str:
 
 
 def waits(screen: Screen) -> bool:
-    """Whether the page of the second person, which loads itself again, says that something waits."""
+    """Whether the page of the second person, which loads itself again, shows that something waits."""
     try:
         return "look at it" in screen.text()
     except (RuntimeError, KeyError):  # (between two pages)

@@ -11,7 +11,7 @@ from typing import TypeAlias
 
 from checks.cases.limit_books import CCA, HERE
 
-# Each category with its supply, its points and its reserve; and a word of tools/report.
+# Each category with its supply, its points and its reserve. A word is an argument of tools/report.
 Categories: TypeAlias = Iterable[tuple[str, int, int, int]]
 Word: TypeAlias = str | pathlib.Path
 EXAMPLES = pathlib.Path(HERE).parent / "examples"
@@ -72,7 +72,7 @@ def hostile(folder: pathlib.Path) -> list[Word]:
 
 
 def three_hundred(folder: pathlib.Path) -> list[Word]:
-    """As many rounds as there may be, with 16 bidders that ask for less and less."""
+    """The greatest number of rounds, with 16 bidders that ask for less and less."""
     names = [f"b{n}" for n in range(1, 17)]
     award = award_text(1, [("a", 4, 3, 1000), ("b", 6, 1, 10)], [(name, 30) for name in names], [(1, 5)])
     log: list[str] = []
@@ -116,13 +116,13 @@ def spectrum(folder: pathlib.Path) -> list[Word]:
 
 
 def begun(folder: pathlib.Path) -> list[Word]:
-    """The sample, of which the second round is open."""
+    """The sample during its open second round."""
     lines = (EXAMPLES / "spectrum.log").read_text().splitlines()[:15]
     return list(written(folder, "begun", (EXAMPLES / "spectrum.award").read_text(), lines))
 
 
 def three(folder: pathlib.Path) -> list[Word]:
-    """A book in which three win, and in which what two of them pay is limited by a third."""
+    """A book where three win, and a third limits what two of them pay."""
     lines = ["book 1", "supply 1 1 1", "reserve 100 100 50"]
     bids = (
         ("north", "1 0 0", 900),
@@ -166,8 +166,8 @@ DRAWN = [f"drawn{number}" for number in range(1, 11)]
 
 
 def files_of(name: str, folder: pathlib.Path) -> list[Word]:
-    """The words of the report of this name, or of the auction that the program makes of its number. What is made of it
-    is in the folder."""
+    """The arguments of the report of this name, or of the auction that the program makes from its number. The files
+    made for it are in the folder."""
     return made(folder, name.removeprefix("drawn")) if name in DRAWN else SHOWN[name](folder)
 
 
@@ -205,7 +205,7 @@ def made_set(name: str, folder: pathlib.Path) -> list[pathlib.Path]:
 
 
 def made_study(name: str, folder: pathlib.Path) -> list[pathlib.Path]:
-    """The page of a study of so many auctions of each case."""
+    """The page of a study; `STUDIES` has the number of auctions of each case."""
     for kind in ("award", "values"):
         shutil.copy(EXAMPLES / f"final-cap.{kind}", folder)
     text = (EXAMPLES / "final-cap.plan").read_text().replace("auctions = 1000", f"auctions = {STUDIES[name]}")

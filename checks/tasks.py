@@ -1,4 +1,5 @@
-"""The words of the programs of build/, checks/ and bench/, some of which do one of several tasks, a module for each."""
+"""The arguments of the programs of build/, checks/ and bench/. Some of these do one of several tasks, with a module for
+each."""
 
 from __future__ import annotations
 
@@ -13,7 +14,7 @@ ROOT = pathlib.Path(__file__).resolve().parents[1]
 
 
 class Number(NamedTuple):
-    """A number that a task takes, with what it is where it isn't given."""
+    """A number that a task takes, with its default."""
 
     name: str
     default: int
@@ -21,7 +22,7 @@ class Number(NamedTuple):
 
 
 class Task(NamedTuple):
-    """A task: its word, its module, the numbers that it takes, and about how long it takes with their defaults."""
+    """A task: its argument, its module, the numbers that it takes, and about how long it takes with their defaults."""
 
     word: str
     module: str
@@ -30,33 +31,34 @@ class Task(NamedTuple):
 
 
 def about(task: Task, folder: str) -> str:
-    """The docstring of a task's module, which isn't loaded for it."""
+    """The docstring of a task's module, without loading the module."""
     text = (ROOT / folder.replace(".", "/") / f"{task.module}.py").read_text(encoding="utf-8")
     return ast.get_docstring(ast.parse(text)) or ""
 
 
 def reader_of(name: str, what: str | None) -> argparse.ArgumentParser:
-    """A reader of the words of the program of this name, such as `checks/wrong`, with its help as the lines are."""
+    """A parser of the arguments of the program of this name, such as `checks/wrong`; its help keeps the lines of the
+    text."""
     form = argparse.RawDescriptionHelpFormatter
     return argparse.ArgumentParser(prog=name, description=what, formatter_class=form)
 
 
 def whole(text: str) -> int:
-    """A whole number that isn't negative, from a word."""
+    """A whole number that isn't negative, from an argument."""
     if not (text.isascii() and text.isdecimal()):
         raise argparse.ArgumentTypeError(f"{text} is no whole number")
     return int(text)
 
 
 def take(reader: argparse.ArgumentParser, *numbers: Number) -> None:
-    """Has a reader take these numbers, each of which may be left out with all after it."""
+    """Lets a parser take these numbers. A number may be left out together with all after it."""
     for it in numbers:
         more = f"{it.help} ({it.default})"
         reader.add_argument(it.name, type=whole, nargs="?", default=it.default, metavar=it.name.upper(), help=more)
 
 
 def parser(name: str, what: str, folder: str, tasks: Sequence[Task]) -> argparse.ArgumentParser:
-    """The words of a program whose tasks are modules of this package."""
+    """The parser for a program whose tasks are modules of this package."""
     form = argparse.RawDescriptionHelpFormatter
     reader = reader_of(name, what)
     words = reader.add_subparsers(dest="task", metavar="WHAT", required=True)
@@ -77,6 +79,6 @@ def main_of(folder: str, module: str) -> Callable[..., int | None]:
 
 
 def run(name: str, what: str, folder: str, tasks: Sequence[Task]) -> int:
-    """Does the task that the words name, and returns its status."""
+    """Does the task that the arguments name, and returns its status."""
     asked = parser(name, what, folder, tasks).parse_args()
     return main_of(folder, asked.module)(*(getattr(asked, one) for one in asked.names)) or 0

@@ -1,6 +1,6 @@
 """Runs programs under ptrace: the calls of the system that they make, and calls that fail, do less, or meet a signal.
 
-Linux on x86-64 alone. Calls count from the first one on that `cca` makes itself, so that no fault hits the loader.
+Only for Linux on x86-64. Calls count from the first one that `cca` makes itself, so that no fault hits the loader.
 `traced.c` does it, and is compiled here: a process that follows each stop in Python would take some ten times as long.
 """
 
@@ -57,10 +57,10 @@ NUMBERS = {
 }
 NAMES = {number: name for name, number in NUMBERS.items()}
 FOR_EVER = 2**62
-# The calls that are always looked at: the one with which a program begins, and those whose answers are noted.
+# The calls that are always looked at: the first call of a program, and the calls whose answers are noted.
 ALWAYS = ("statx", "write", "fsync")
 TRACED, CLOSED, NO_XFSZ, NO_ERRORS = 1, 2, 4, 8
-# The call with which the program begins, and the path in it.
+# The first call of the program, and the path in it.
 BEGIN = ("statx", "/proc/self/fd/1")
 ANSWER, SHORT, SIGNAL = range(3)
 # As in traced.c.
@@ -74,8 +74,8 @@ LIBC = ctypes.CDLL(None, use_errno=True)
 class Fault(NamedTuple):
     """What happens to the calls of a name from number `first` to number `last`, counted from 1.
 
-    `how` is an error (`EIO`), which the call answers without being made; `0`, which it answers likewise; `short N`, a
-    call for at most N bytes; or a signal (`SIGTERM`), which comes as the call is made.
+    `how` is an error (`EIO`) or `0`, which the call returns without being made; `short N`, a call for at most N bytes;
+    or a signal (`SIGTERM`), which comes as the call is made.
     """
 
     call: str
@@ -94,10 +94,10 @@ class Fault(NamedTuple):
 
 
 class Call(NamedTuple):
-    """A call that met a fault, or is a `write`, an `fsync` or the end: its number among those of the name.
+    """A call that met a fault, or is a `write`, an `fsync` or the end: its number among the calls of the name.
 
-    `file` is its first argument, `how` the fault that it met, and `answer` is None if it isn't noted, and where the
-    process ended in the call.
+    `file` is its first argument, `how` the fault that it met. `answer` is None if it isn't noted, or if the process
+    ended in the call.
     """
 
     name: str
@@ -110,9 +110,8 @@ class Call(NamedTuple):
 class Traced(NamedTuple):
     """How a process ended: its status, minus the number of a signal that ended it, and its calls.
 
-    `counts` says how many of each name it made, as far as they were looked at. `has_begun` is whether it made a call of
-    its own, and `is_late` whether it was killed since its time was over. Of a process that isn't traced there are no
-    calls.
+    `counts` has the number of its calls of each name that was looked at. `has_begun` is whether it made a call of its
+    own, and `is_late` whether it was killed since its time was over. A process that isn't traced has no calls.
     """
 
     status: int
@@ -123,8 +122,8 @@ class Traced(NamedTuple):
 
 
 class Start(NamedTuple):
-    """How a process starts: its words, its folder, its standard streams, its user, a limit (`RLIMIT_..` and a value),
-    which of its streams are closed, and the call from which on its calls count, with the path in it."""
+    """How a process starts: its command line, its folder, its standard streams, its user, a limit (`RLIMIT_..` and a
+    value), which of its streams are closed, and the first call that counts, with the path in it."""
 
     words: Sequence[str]
     folder: str = "."
@@ -156,7 +155,7 @@ class Tracer:
     ) -> Traced:
         """Runs a program with these faults, and kills it after this many seconds.
 
-        The calls that are looked at are those of the faults, of `names`, and of `ALWAYS`.
+        It looks at the calls of the faults, of `names`, and of `ALWAYS`.
         """
         call, path = start.begin
         looked_at = {*ALWAYS, call, *names, *(fault.call for fault in faults)}
@@ -179,7 +178,7 @@ class Tracer:
 
 
 def unpacked(reply: bytes, faults: Sequence[Fault]) -> Traced:
-    """What the tracer says of a run."""
+    """What the tracer reports about a run."""
     status, is_late, has_begun, _ = REPLY.unpack_from(reply)
     numbers = COUNTS.unpack_from(reply, REPLY.size)
     calls = []
@@ -198,7 +197,7 @@ def compiled(folder: pathlib.Path) -> str:
 
 
 def can_trace(program: str, traced: str) -> bool:
-    """Whether the program can be traced here, so that a call of it fails where it is to fail."""
+    """Whether the program can be traced here, so that a call of it fails when it is to fail."""
     if platform.system() != "Linux" or platform.machine() != "x86_64":
         return False
     tracer = Tracer(program=traced)
@@ -210,7 +209,7 @@ def can_trace(program: str, traced: str) -> bool:
 
 
 def shown(faults: Sequence[Fault]) -> str:
-    """The faults in words."""
+    """A description of the faults."""
     return ", ".join(
         f"{it.call} {it.first}"
         + ("" if it.last == it.first else " and later" if it.last >= FOR_EVER else f" to {it.last}")

@@ -1,1 +1,1 @@
-"""Cases that tests and comparisons share, and the voices that answer them."""
+"""Cases that tests and comparisons share, and the voices that judge them."""

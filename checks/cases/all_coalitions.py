@@ -1,9 +1,9 @@
 """Tests printed prices of small books by all choices and all coalitions, with exact fractions.
 
-It shares no code with tools/price. All choices are listed. They say who wins, the Vickrey prices, and what each set of
-winners has to pay together. That the printed payments have the least sum and are nearest to the Vickrey prices is
-shown by multipliers of the rows that they meet exactly (Karush, Kuhn and Tucker), which the simplex method finds if
-there are any.
+It shares no code with tools/price. All choices are listed. They determine who wins, the Vickrey prices, and what each
+set of winners has to pay together. Multipliers of the rows that the printed payments meet exactly (Karush, Kuhn and
+Tucker) show that these payments have the least sum and are nearest to the Vickrey prices. The simplex method finds such
+multipliers if there are any.
 """
 
 from __future__ import annotations
@@ -46,7 +46,8 @@ def all_choices(book: Book) -> Iterator[tuple[Choice, int]]:
 
 
 def rank(choice: Choice) -> list[int]:
-    """The order of ties: at the first bidder where two choices differ, the smaller number comes first, and 0 last."""
+    """The order of ties: at the first bidder that makes two choices differ, the smaller number comes first, and 0
+    last."""
     return [number or 10**6 for number in choice]
 
 
@@ -132,7 +133,7 @@ def has_solution(columns: Sequence[Sequence[int]], right: Sequence[Fraction]) ->
 
 
 def pivot(lines: list[list[Fraction]], row: int, column: int) -> None:
-    """Makes a column that of a unit, with 1 in a row."""
+    """Makes a column a unit vector, with 1 in the row."""
     lines[row] = [entry / lines[row][column] for entry in lines[row]]
     for i, line in enumerate(lines):
         if i != row and line[column]:

@@ -1,8 +1,8 @@
 """Attacks on the record of an auction's day, by an auctioneer with an editor, all files and the key, and by a bidder.
 
-A day is told as steps, and the desk's own log writes its files, by a clock of this module. So the strongest attack is
-the same day told again with other steps, by the same key and at the same times: all parts of its files agree. What is
-found then is found by lines that somebody noted.
+A day is a list of steps, and the desk's own log writes its files, by a clock of this module. So the strongest attack is
+another list of steps for the same day, with the key and the times unchanged: all parts of its files agree. Such an
+attack is found only by lines that somebody noted.
 """
 
 from __future__ import annotations
@@ -44,8 +44,8 @@ seal, journal, publish = map(taking, ("seal", "journal", "publish"))
 
 @dataclasses.dataclass(frozen=True)
 class Step:
-    """Something that is done on the day: lines that are written, a cut after a close, a close that is taken back, or
-    the set; and by how many seconds it is later than its minute."""
+    """A step of the day: lines that are written, a cut after a close, a close that is taken back, or the set. It also
+    has the seconds by which it is later than its minute."""
 
     text: bytes = b""
     back: int | None = None
@@ -56,7 +56,7 @@ class Step:
 
     @property
     def is_reopened(self) -> bool:
-        """Whether the last close is taken back alone."""
+        """Whether only the last close is taken back."""
         return not self.text and self.back is None and not self.is_publish
 
 
@@ -154,7 +154,7 @@ class Day:
 
 
 def told(steps: Iterable[Step], award: bytes = AWARD, key: bytes = KEY, about: Mapping[str, str] = PROGRAM) -> Files:
-    """The files of a day that is told by steps: each step begins at its own minute."""
+    """The files of a day with these steps: each step begins at its own minute."""
     clock, epochs = Clock(), (f"{it:016}" for it in itertools.count())
     with contextlib.ExitStack() as patches:
         for name, new in (
@@ -248,8 +248,8 @@ class Found:
 
 
 def write(folder: str, files: Files) -> dict[str, str]:
-    """Writes files as they are published, with the certificate: that of the sample, or a new one for other files where
-    the program is there to make it. Returns their names."""
+    """Writes files as they are published, with the certificate: the sample's, or a new one for other files if there is
+    a program to make it. Returns their names."""
     names = {
         kind: str(pathlib.Path(folder, f"auction.{kind}")) for kind in ("award", "log", "key", "journal", "posted")
     }
@@ -304,7 +304,7 @@ def foreign_of(day: Files, files: Files) -> tuple[int, ...]:
 
 
 def note_of(day: Files, text: str) -> str:
-    """What is said of a note, by the files of the day."""
+    """What is reported about a note, by the files of the day."""
     with tempfile.TemporaryDirectory() as folder:
         names = write(folder, day)
         note = pathlib.Path(folder, "noted")
@@ -329,8 +329,8 @@ class Attack:
     foreign: tuple[int, ...] = ()
 
     def differs(self, it: Found) -> list[tuple[str, str] | tuple[tuple[int, ...], tuple[int, ...]]]:
-        """Where what was found isn't what is expected; nothing if all is. What a set of a whole new day comes to isn't
-        asked without the program, which has to make its certificate."""
+        """The pairs of expected and found outcomes that differ. Without the program, which has to make the certificate,
+        the outcome for a set of a whole new day isn't compared."""
         wanted = [(self.check, it.check), (self.publish, it.publish)][: 1 if self.publish == "yes" and not PATH else 2]
         return [pair for pair in wanted if not re.search(re.escape(pair[0]), pair[1])] + [
             pair for pair in [(self.foreign, it.foreign)] if pair[0] != pair[1]
@@ -338,7 +338,7 @@ class Attack:
 
 
 def outcome(it: Found) -> str:
-    """Who finds an attack, in words, by what was found."""
+    """A description of who finds an attack, by what was found."""
     words = []
     if it.check != "yes":
         words.append("tools/journal --check refuses")

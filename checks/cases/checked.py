@@ -1,4 +1,4 @@
-"""What theory says of auctions of bidders that follow their values, tested on one auction."""
+"""What theory predicts for auctions with bidders that follow their values, tested on one auction."""
 
 from __future__ import annotations
 
@@ -36,7 +36,7 @@ def awarded(award_bytes: bytes, auction: Auction) -> tuple[list[str], list[str]]
 
 
 def faults(number: int, is_small: bool = False) -> tuple[str, list[str]]:
-    """The form of auction `number`, and what isn't as theory says; "limit" where the program doesn't price it."""
+    """The form of auction `number`, and what contradicts the theory; "limit" if the program doesn't price it."""
     form, award_bytes, values_bytes = rehearsed.drawn(number, is_small)
     award = read_award(award_bytes)
     values = values_of_seed(award, values_bytes, number)

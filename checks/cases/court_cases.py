@@ -1,4 +1,4 @@
-"""Drawn books, slots, weights and auctions with right and altered certificates, and what is made of them by the voices
+"""Drawn books, slots, weights and auctions with right and altered certificates, and the answers to them by the voices
 of checks/cases/voices.py."""
 
 from __future__ import annotations
@@ -45,7 +45,7 @@ ENDS = (
 
 
 def answers(folder: str, command: str, texts: Sequence[bytes], program: str | None = None) -> list[tuple[str, int]]:
-    """How the court's file, the rules, and the program where one is named answer for these texts."""
+    """The answers of the court's file, of the rules, and of the program if one is named, for these texts."""
     names = [os.path.join(folder, kind) for kind in FILES[command]]
     for name, text in zip(names, texts):
         with open(name, "wb") as file:
@@ -67,7 +67,7 @@ def cases(rng: random.Random) -> Iterator[Case]:
 
 
 def changed(rng: random.Random, text: bytes, count: int) -> Iterator[bytes]:
-    """Texts that come of a certificate, the first one as it was made."""
+    """Texts that are made from a certificate; the first one is unchanged."""
     changes: list[Change] = [broken, broken, broken, slipped, scaled, widened, moved]
     yield text
     for _ in range(count):

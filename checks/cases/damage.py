@@ -1,4 +1,4 @@
-"""Texts that are changed: by another number or a slip of form; and certificates that are written otherwise and still
+"""Texts that are changed by another number or a fault of form, and certificates that are written differently and still
 right."""
 
 from __future__ import annotations
@@ -29,7 +29,7 @@ def broken(rng: random.Random, text: str, kinds: Collection[str] | None = None) 
 
 
 def slipped(rng: random.Random, text: str) -> str:
-    """The text with a slip of form: a byte, a line or the end that isn't as it was."""
+    """The text with a fault of form: a changed byte, line or end."""
     lines, at = text.splitlines(keepends=True), rng.randrange(len(text))
     n = rng.randrange(len(lines))
     return rng.choice(
@@ -48,7 +48,7 @@ def slipped(rng: random.Random, text: str) -> str:
 
 
 def respelt(rng: random.Random, text: str) -> str:
-    """The text with a number that is written otherwise."""
+    """The text with a number in another form."""
     number = rng.choice(list(NUMBER.finditer(text)))
     other = rng.choice(
         [
@@ -99,7 +99,7 @@ def scaled(rng: random.Random, text: str) -> str:
 
 
 def widened(rng: random.Random, text: str) -> str:
-    """A certificate in which an entry of a table is greater by one: no test asks that a table is exact."""
+    """A certificate with an entry of a table that is greater by one: no test asks that a table is exact."""
     start, end = rng.choice(
         [number.span() for line in re.finditer(r"^t .*", text, re.M) for number in NUMBER.finditer(text, *line.span())]
     )

@@ -1,7 +1,7 @@
-"""Kills, faults of the system and races of the desk's log, and what has to be so after each of them.
+"""Kills, faults of the system and races of the desk's log, and what has to be true after each of them.
 
 A child of this process does something to a log while strace kills it at a system call, or makes the call fail. Then a
-desk starts on what is left, mends what it reports, and everything is done again: no line that was answered may be lost,
+desk starts on what is left, repairs what it reports, and everything is done again: no line with a reply may be lost,
 and none may be written twice.
 """
 
@@ -44,7 +44,7 @@ def ok(wanted: bytes) -> list[str]:
 
 @dataclasses.dataclass(frozen=True)
 class Ended:
-    """What a traced child said (nothing if it was killed), whether it was killed, and its calls in order."""
+    """What a traced child reported (nothing if it was killed), whether it was killed, and its calls in order."""
 
     said: str
     is_killed: bool
@@ -52,7 +52,7 @@ class Ended:
 
 
 def child(act: Callable[[], object], ready: int, out: int) -> None:
-    """The child: waits until it is traced, acts, says what came of it, and is gone."""
+    """The child: waits until it is traced, acts, reports the outcome, and ends."""
     try:
         ctypes.CDLL(None).prctl(PR_SET_PTRACER, ctypes.c_ulong(ANY), 0, 0, 0)
         if not os.read(ready, 1):  # (its parent is gone)
@@ -69,7 +69,7 @@ def child(act: Callable[[], object], ready: int, out: int) -> None:
 
 
 def traced(act: Callable[[], object], *faults: str) -> Ended:
-    """Runs `act` in a child whose system calls are traced, each fault injected. Raises `OSError` where that isn't
+    """Runs `act` in a child whose system calls are traced, each fault injected. Raises `OSError` if that isn't
     allowed."""
     (ready, go), (result, out) = os.pipe(), os.pipe()
     pid = os.fork()
@@ -108,7 +108,7 @@ def can_trace() -> bool:
 
 
 def numbered(calls: Iterable[tuple[str, str]]) -> Iterator[tuple[str, int]]:
-    """Each call by its name, with its number among those of its name."""
+    """Each call by its name, with its number among the calls of its name."""
     seen: collections.Counter[str] = collections.Counter()
     for name, _ in calls:
         seen[name] += 1
@@ -116,18 +116,18 @@ def numbered(calls: Iterable[tuple[str, str]]) -> Iterator[tuple[str, int]]:
 
 
 def need(right: object, *what: object) -> None:
-    """Raises an error of what was seen, if something isn't right."""
+    """Raises an error that shows what was seen, if something isn't right."""
     if not right:
         raise AssertionError(what)
 
 
 def kept_beside(path: pathlib.Path) -> dict[str, bytes]:
-    """The bytes of all that is kept beside a log."""
+    """The bytes of all files that are kept next to a log."""
     return {file.name: file.read_bytes() for file in path.parent.iterdir() if re.search(r"-\d+$", file.name)}
 
 
 class Scene:
-    """Something that is done to a log: what is there before, what the child does, and what has to be so afterwards."""
+    """Something that is done to a log: the log before, what the child does, and what has to be true afterwards."""
 
     name = ""
     before = FIRST
@@ -139,7 +139,7 @@ class Scene:
         return LogFile(self.path, PINS)
 
     def prepare(self) -> None:
-        """The log before: all of it answered. `self.base` is that of the child's page."""
+        """The log before: each line has its reply. `self.base` is the base of the child's page."""
         log = self.open()
         if self.before:
             log.append(log.base(b""), self.before, ok)
@@ -153,11 +153,11 @@ class Scene:
         return "whole" if self.path.read_bytes() == self.answered else "changed"
 
     def check(self) -> None:
-        """Starts a desk on what is left, mends it, and does it again. Raises `AssertionError`."""
+        """Starts a desk on what is left, repairs it, and does it again. Raises `AssertionError`."""
         raise NotImplementedError
 
     def check_whole(self, log: LogFile, wanted: bytes) -> None:
-        """The log is the one that is wanted, nothing is wrong, and the journal alone leads to it."""
+        """The log is the expected one, nothing is wrong, and the journal is enough to rebuild it."""
         need(log.stop() is None, "a stop", log.stop())
         need(log.read() == wanted, "the log", log.read(), wanted)
         entries = Journal(pathlib.Path(f"{self.path}.desk")).entries()
@@ -202,7 +202,7 @@ class Write(Scene):
 
 
 class ShortWrite(Write):
-    """A line is written where the disk takes a part of it alone."""
+    """A line is written, and the disk takes only a part of it."""
 
     name = "write, full disk"
 
@@ -247,7 +247,7 @@ class Cut(Scene):
 
 
 class Mend(Scene):
-    """A mend of a log that somebody has spoilt."""
+    """A repair of a log that somebody has damaged."""
 
     mend: faults.Mend = "none"
     spoilt, wanted = b"", b""
@@ -327,7 +327,7 @@ class Start(Scene):
 
 
 class Found(Write):
-    """A start on a log with a line that no desk has answered."""
+    """A start on a log with a line that has no reply of a desk."""
 
     name = "found"
 
@@ -399,7 +399,7 @@ def calls_of(scene: type[Scene]) -> tuple[tuple[str, str], ...]:
 
 
 def kill(scene: type[Scene], call: str, number: int) -> str:
-    """Kills the scene's child at this call, and tests what is left. Gives what the kill left."""
+    """Kills the scene's child at this call, and tests what is left. Returns what the kill left."""
     with staged(scene) as it:
         ended = traced(it.act, f"{call}:signal=KILL:when={number}")
         need(ended.is_killed, "not killed", scene.name, call, number, ended.said)
@@ -410,12 +410,12 @@ def kill(scene: type[Scene], call: str, number: int) -> str:
 
 # Races
 
-# A process, the file to its words, and the file of its answers.
+# A process, the file for its input, and the file of its answers.
 Racer: TypeAlias = tuple[int, TextIO, TextIO]
 
 
 def racer(read: int, write: int) -> None:
-    """A process that writes what it is asked to, when it is asked."""
+    """A process that writes lines to logs, each at its given time."""
     with open(read) as words, open(write, "w", buffering=1) as out:
         for row in words:
             path, base, text, when = row.rstrip("\n").split("\t")
@@ -456,7 +456,7 @@ class Racers:
         return pid, open(to, "w", buffering=1), open(back)
 
     def race(self, path: pathlib.Path, base: Base, texts: Sequence[str]) -> tuple[str, ...]:
-        """What both came to, in order, where they write these lines onto one base."""
+        """Both outcomes, in order, after they write these lines onto one base."""
         when = time.time() + 0.01
         for (_, to, _), text in zip(self.both, texts):
             print(path, base.text(), text, when, sep="\t", file=to)
@@ -470,7 +470,7 @@ class Racers:
 
 
 def race(racers: Racers, is_same: bool) -> tuple[str, ...]:
-    """One race, and a test of what came of it."""
+    """One race, and a test of its outcome."""
     with tempfile.TemporaryDirectory() as folder:
         path = pathlib.Path(folder, "a.log")
         log = LogFile(path, PINS)

@@ -38,7 +38,7 @@ class Drawing:
         self.packages = list(itertools.product(*(range(count + 1) for count in self.award.supply)))
 
     def take(self, kind: Kind, j: int = 0, package: Package = (), amount: int = 0) -> Reply:
-        """Takes a line, and gives its reply."""
+        """Takes a line, and returns its reply."""
         name = self.award.names[j - 1] if j else ""
         self.auction.take(Line(len(self.auction.lines) + 1, 0, kind, name, j, package, Gross(amount)))
         return self.auction.replies[-1]
@@ -71,7 +71,7 @@ class Drawing:
             self.submit(j)
 
     def submit(self, j: int) -> None:
-        """Submits the list, mended until it is admitted."""
+        """Submits the list, and changes it until it is admitted."""
         while (reply := self.take("submit", j)).word == "relative-cap":
             entry, most = reply.numbers
             package, _ = self.auction.drafts(j)[entry - 1]

@@ -311,7 +311,7 @@ def break_field(rng: random.Random, terms: Terms) -> None:
 
 
 def odd_award(rng: random.Random) -> str:
-    """Text that is or isn't TOML, around a right award or alone."""
+    """Text that is or isn't TOML, around a right award or on its own."""
     terms, kind = text_of(terms_of(rng)[0]), rng.random()
     if kind < 0.4:
         return f"x = {rng.choice(FRAGMENTS)}\n" + rng.choice(["", terms])
@@ -346,11 +346,11 @@ class Desk(Protocol):
         """Takes a line."""
 
     def turns(self, j: int, package: tuple[int, ...]) -> Sequence[int]:
-        """The amounts of a package at which an answer to bidder j may turn."""
+        """The amounts of a package where a reply to bidder j may change."""
 
 
 class Lines:
-    """Draws the lines of a log. `desk` takes them, and says the stage and the amounts at which an answer may turn."""
+    """Draws the lines of a log. `desk` takes them, and reports the stage and the amounts where a reply may change."""
 
     def __init__(self, rng: random.Random, desk: Desk, supply: Sequence[int], bidders: int) -> None:
         self.rng, self.desk, self.supply, self.bidders = rng, desk, supply, bidders
@@ -358,8 +358,8 @@ class Lines:
         self.since_close, self.patience = 0, rng.choice([0.1, 0.2, 0.5])
 
     def package(self, j: int) -> list[int]:
-        """Often what the bidder asked for before, a lot less, or a lot of another category for it, or else any, often
-        nearly all."""
+        """Often what the bidder asked for before, or one lot less, or a lot of another category instead. Otherwise any
+        package, often nearly all lots."""
         before, kind = self.asked.get(j), self.rng.random()
         if before and kind < 0.7:
             less, more = (self.rng.randrange(len(before)) for _ in range(2))
@@ -370,7 +370,7 @@ class Lines:
         return [self.rng.randint(least, s) + (self.rng.random() < 0.02) for least, s in zip(low, self.supply)]
 
     def amount(self, j: int, package: Sequence[int]) -> int:
-        """Often an amount at which an answer may turn, or one more or less."""
+        """Often an amount where a reply may change, or one more or less."""
         turns = self.desk.turns(j + 1, tuple(package))
         if turns and self.rng.random() < 0.7:
             return max(0, self.rng.choice(turns) + self.rng.choice([-1, 0, 0, 0, 1]))
@@ -435,7 +435,7 @@ NUMBERS = [
 
 
 def broken_record(rng: random.Random, categories: int) -> str:
-    """A record in which some field isn't of its form, or perhaps all are."""
+    """A record with some field that isn't of its form, or perhaps a right record."""
     fields = [
         rng.choice(["bid", "draft", "drop", "submit", "close", "Bid", "bids", "", " bid"]),
         rng.choice(["b0", "B0", "b 0", "", "_b", "b" * 20, "b" * 21, "0b", "b\u00e9"]),

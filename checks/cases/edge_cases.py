@@ -1,7 +1,7 @@
-"""Cases at the edge to the system: one file under two words, pipes, devices, other writers, syncs and signals.
+"""Cases at the edge to the system: one file as two arguments, pipes, devices, other writers, syncs and signals.
 
-Each case makes its files in a folder of its own, runs the program there, and tests the status, the last line and what
-every file holds.
+Each case makes its files in a folder of its own, runs the program there, and tests the status, the last line and the
+bytes of every file.
 """
 
 from __future__ import annotations
@@ -238,7 +238,8 @@ def full_pipe() -> tuple[int, int]:
 
 
 def stopped_run() -> None:
-    """A run that is stopped holds its file until it is killed; its output is a pipe that is full, so it can't end."""
+    """A run that is stopped keeps the lock on its file until it is killed; its output is a pipe that is full, so it
+    can't end."""
     samples()
     ended(("price", "book", "whole"), 0)
     whole = text_of("whole")

@@ -13,7 +13,7 @@ Values: TypeAlias = Sequence[Mapping[tuple[int, ...], int]]
 
 
 def best(supply: Sequence[int], reserves: Sequence[int], bids: Values, members: Collection[int]) -> int:
-    """The greatest net value of an allocation in which only these bidders win."""
+    """The greatest net value of an allocation where only these bidders win."""
     none: tuple[tuple[int, ...], int] = (0,) * len(supply), 0
     ways = [[none, *bids[j].items()] if j in members else [none] for j in range(len(bids))]
     choices: Iterator[tuple[tuple[tuple[int, ...], int], ...]] = itertools.product(*ways)
@@ -25,7 +25,7 @@ def best(supply: Sequence[int], reserves: Sequence[int], bids: Values, members: 
 
 
 def solved(rows: Sequence[Sequence[int]]) -> list[Fraction] | None:
-    """The point at which each of these equations holds, as many as unknowns; None if there isn't just one."""
+    """The solution of these equations, as many as unknowns; None if there isn't exactly one."""
     lines, size = [list(map(Fraction, row)) for row in rows], len(rows)
     for at in range(size):
         found = next((n for n in range(at, size) if lines[n][at]), None)

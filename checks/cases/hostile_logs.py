@@ -16,8 +16,7 @@ MOST = sum(s * p for s, p in zip(SUPPLY, POINTS))
 
 
 def award() -> str:
-    """Two categories in which 420 packages have points that all differ, prices that rise by one in each round, 16
-    bidders."""
+    """Two categories with 420 packages whose points all differ, prices that rise by one in each round, 16 bidders."""
     lines = ["version = 2", "tick = 1"]
     for name, supply, points in zip("ab", SUPPLY, POINTS):
         lines += ["[[category]]", f'name = "{name}"', f"supply = {supply}", f"points = {points}", "reserve = 1000"]
@@ -35,7 +34,7 @@ def line(kind: str, j: int, package: Pair, amount: int | str = "") -> str:
 
 
 class Clock:
-    """300 rounds in which bidder 1 falls by one point a round while bidder 2 asks for all, and the final one."""
+    """300 rounds: bidder 1 falls by one point a round while bidder 2 asks for all; then the final round."""
 
     def __init__(self) -> None:
         self.lines: list[str] = []
@@ -54,7 +53,7 @@ class Clock:
 
 
 def ordinary() -> list[str]:
-    """16 bidders who bid in each of 300 rounds and then draft, drop and submit in turn."""
+    """16 bidders that bid in each of 300 rounds and then draft, drop and submit in turn."""
     lines = []
     for r in range(1, ROUNDS):
         lines += [line("bid", j, (20, 19) if j < 3 else (r % 21, j)) for j in range(1, BIDDERS + 1)] + ["close,,,"]

@@ -25,7 +25,7 @@ DENSE_KINDS = ("dense", "additive")
 
 
 def build_cca() -> None:
-    """Has ./cca prove and build the program, where CCA_PROGRAM names none."""
+    """Has ./cca prove and build the program, if CCA_PROGRAM names none."""
     os.makedirs(OUT, exist_ok=True)
     if os.environ.get("CCA_PROGRAM"):
         return

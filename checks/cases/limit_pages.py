@@ -1,4 +1,4 @@
-"""What the pages of docs/ say of the limits, by the names of `cca_tools.rules.stops.MOST`."""
+"""What the pages of docs/ say about the limits, by the names of `cca_tools.rules.stops.MOST`."""
 
 from __future__ import annotations
 
@@ -9,7 +9,7 @@ DOCS = pathlib.Path(__file__).resolve().parents[2] / "docs"
 PAGES = ("FORMATS", "CERTIFICATES", "PLACEMENTS", "PROVED")
 FORMATS, CERTIFICATES, PLACEMENTS, PROVED = ((DOCS / f"{name}.md").read_text(encoding="utf-8") for name in PAGES)
 NUMBER = re.compile(r"\d+\^\d+|[\d,]*\d")
-# By the words of the table of limits what the rules call its numbers, in order.
+# For each row of the table of limits, the names of the rules for its numbers, in order.
 LIMITS = {
     "bytes of an award, of weights, of slots": ["award bytes", "weights bytes", "slots bytes"],
     "bytes of a book, of edits": ["book bytes", "edits bytes"],
@@ -39,7 +39,7 @@ FIELDS = {
     16: "cap weight",
     17: "cap limit",
 }
-# What the pages say of further limits.
+# What the pages say about further limits.
 SAID = {
     "drafts": (FORMATS, r"A draft list has at most ([\d,]+) entries"),
     "amount": (FORMATS, r"sealed amount is at\s+most (\d+\^\d+)"),
@@ -52,7 +52,7 @@ SAID = {
     "first version bidders": (CERTIFICATES, r"With at most ([\d,]+) bidders and at most"),
     "first version states": (CERTIFICATES, r"bidders and at most\s+([\d,]+) states"),
 }
-# What they say of limits for which the rules have no name.
+# What they say about limits without a name in the rules.
 MORE = {
     "chosen": (CERTIFICATES, r"`choice` is followed by `B` numbers, each 0 to ([\d,]+)\."),
     "name bytes": (CERTIFICATES, r"A \*\*name\*\* is 1 to ([\d,]+) of `a`"),
@@ -74,14 +74,15 @@ def table_rows() -> list[tuple[str, list[int]]]:
 
 
 def field_numbers() -> dict[int, int]:
-    """By the number of a field of an award the greatest that it may have, as its rule says."""
+    """For the number of a field of an award, the greatest value that its rule allows."""
     rules = dict(re.findall(r"^\| (\d+) [^|]*\| (.*) \|$", FORMATS, re.M))
     found = {number: re.search(rf"(?:\d to|at most) ({NUMBER.pattern})", rules[str(number)]) for number in FIELDS}
     return {number: number_of(it[1]) for number, it in found.items() if it}
 
 
 def said_number(page: str, said: str) -> int:
-    """The number of a sentence of a page. If the page says it more than once, it has to say the same."""
+    """The number in a sentence of a page. If the page has the sentence more than once, the number has to be the
+    same."""
     (found,) = set(re.findall(said, page))
     return number_of(found)
 

@@ -1,6 +1,6 @@
 """Files that reach each limit of crates/limits, and files that are one beyond it, with what both programs answer.
 
-A scene makes the run of a value: `is_over` says that the value is beyond the limit. What is printed is written here
+A scene makes the run of a value: `is_over` is whether the value is beyond the limit. What is printed is written here
 from the pages, never taken from a program.
 """
 
@@ -27,9 +27,9 @@ AWARD = (
     '[[category]]\nname = "a"\nsupply = 1\npoints = 0\nreserve = 0\n\n'
     '[[bidder]]\nname = "x"\neligibility = 0\n\n[[bidder]]\nname = "y"\neligibility = 0\n' + STEP
 )
-# Both ask for the only lot, so that its price rises; x alone does, so that the clock ends.
+# Both ask for the only lot, so that its price rises; only x does, so that the clock ends.
 BOTH, ONE, CLOSE = "bid,x,1,\nbid,y,1,\n", "bid,x,1,\n", "close,,,\n"
-# 320 packages of at most 34 lots, of which the drafts of one bidder are the greatest.
+# 320 packages of at most 34 lots; the drafts of one bidder are the greatest of them.
 GRID = (19, 15)
 WIDE_AWARD = (
     "version = 1\ntick = 1\n\n"
@@ -106,7 +106,7 @@ def book_of(supply: str, reserve: str = "", bidders: str = "") -> str:
 
 
 def numbered(count: int, line: str) -> str:
-    """That many lines, in which `#` stands for the number of the line."""
+    """This many lines; `#` stands for the number of the line."""
     return "".join(line.replace("#", str(number)) for number in range(1, count + 1))
 
 
@@ -116,7 +116,7 @@ def states_of(supply: Iterable[int]) -> int:
 
 
 def supplies(size: int, lots: int, least: int = 1) -> Iterator[tuple[int, ...]]:
-    """All supplies of at most so many categories and lots, each once in rising order."""
+    """All supplies of at most `size` categories and `lots` lots, each once in rising order."""
     if size:
         for count in range(least, lots + 1):
             yield (count,)
@@ -125,7 +125,7 @@ def supplies(size: int, lots: int, least: int = 1) -> Iterator[tuple[int, ...]]:
 
 @functools.cache
 def supply_at(states: int, is_over: bool) -> tuple[int, ...]:
-    """A supply with so many states, or with the fewest that are as many at least."""
+    """A supply with this many states, or with the fewest states that are at least as many."""
     every = supplies(MOST["categories"], MOST["lots"])
     found = min((it for it in every if states_of(it) >= states), key=states_of)
     if not is_over and states_of(found) != states:
@@ -140,8 +140,8 @@ def price_before(price: int) -> int:
 
 
 def drafted(drafts: Sequence[tuple[tuple[int, ...], int]], listed: Sequence[tuple[tuple[int, ...], int]]) -> Run:
-    """An audit of an auction in which bidder x sends drafts, of which these are listed, and wins with the first of the
-    greatest amounts at a price of 0."""
+    """An audit of an auction where bidder x sends drafts, lists some of them, and wins with the first of the greatest
+    amounts at a price of 0."""
     lines = [f"draft,x,{a} {b},{amount}\n" for (a, b), amount in drafts]
     log = f"bid,x,{GRID[0]} {GRID[1]},\nclose,,,\n{''.join(lines)}submit,x,,\nclose,,,\n"
     bids = sorted(listed)
@@ -181,14 +181,14 @@ def bytes_of_an_award(n: int, is_over: bool) -> Run:
 
 
 def bytes_of_a_log(n: int, is_over: bool) -> Run:
-    """A record of a log, and blank lines, which are no records."""
+    """A record of a log, and blank lines, which aren't records."""
     text = CLOSE + "\n" * (n - len(CLOSE))
     return of_log(text, f"cca: limit bytes {n}" if is_over else "cca: refused log 2")
 
 
 def junk(run: Callable[[bytes, str], Run], kind: str) -> Scene:
-    """A file that is judged within its limit, and of which nothing but its length counts beyond. No file of its form is
-    so long."""
+    """A file that is judged within its limit; beyond the limit only its length counts. No file of its form is this
+    long."""
 
     def scene(n: int, is_over: bool) -> Run:
         return run(b"x" * n, f"cca: limit bytes {n}" if is_over else f"cca: refused {kind} 0")
@@ -243,12 +243,12 @@ def count_of_a_supply(n: int, is_over: bool) -> Run:
 
 
 def count_of_an_award(n: int, is_over: bool) -> Run:
-    """As that of a book."""
+    """A supply of an award that is within its form, but not within the limit of lots."""
     return with_field("supply = 1", f"supply = {n}", "cca: refused award 5 1" if is_over else f"cca: limit lots {n}")
 
 
 def count_of_a_holding(n: int, is_over: bool) -> Run:
-    """What the first bidder holds already."""
+    """The holding of the first bidder: lots that it already owns."""
     text = AWARD.replace("eligibility = 0", f"eligibility = 0\nholding = [{n}]", 1)
     return of_award(text, "cca: refused award 11 1" if is_over else "")
 
@@ -300,12 +300,12 @@ def bids_of_a_bidder(n: int, is_over: bool) -> Run:
 
 
 def records_of_a_log(n: int, is_over: bool) -> Run:
-    """That many closes, of which the second ends the auction."""
+    """This many closes; the second one ends the auction."""
     return of_log(CLOSE * n, f"cca: limit records {n}" if is_over else NO_CERT)
 
 
 def rounds_of_a_clock(n: int, is_over: bool) -> Run:
-    """A clock in which the demand exceeds the supply in all rounds before round `n`, and not in it."""
+    """A clock where the demand exceeds the supply in all rounds before round `n`, and not in round `n`."""
     last = f"{ONE}{CLOSE}{CLOSE}"
     return of_log((BOTH + CLOSE) * (n - 1) + last, f"cca: limit rounds {n}" if is_over else NO_CERT)
 
@@ -360,7 +360,7 @@ def weight_of_a_bidder(n: int, is_over: bool) -> Run:
 
 
 def winning(n: int, words: str, weights: str, fault: str) -> Run:
-    """That many bidders, each of which wins a lot for the greatest amount, since there is a lot for each."""
+    """This many bidders. Each wins a lot for the greatest amount, since there is a lot for each."""
     most = MOST["amount"]
     files = {"BOOK": book_of(f"{n}", bidders=numbered(n, f"bidder b#\nbid 1 {most}\n")).encode()}
     if weights:
@@ -397,7 +397,7 @@ def rows_of_a_cert(n: int, is_over: bool) -> Run:
 
 
 def rows_of_a_place_cert(n: int, is_over: bool) -> Run:
-    """As that of a book."""
+    """A certificate of a placement that breaks off after the number of its rows."""
     slots = f"{SLOTS_HEAD}band 1\nbidder x 1\nplace 1 5\nend\n"
     head = "pcert 1\nden 1\nvalue 5\norder 1\nchoice 1\ntable\nt 5 0\n"
     front = f"{head}without 1\norder 1\nchoice 0\ntable\nt 0 0\npay 0\n"
@@ -449,7 +449,7 @@ def many_states(n: int, is_over: bool) -> str:
 
 
 def field(old: str, new: str, fault: str) -> Scene:
-    """The field of an award with the value; `fault` has its number and that of its table."""
+    """The field of an award with the value; `fault` has its number and its table's number."""
     return lambda n, is_over: with_field(
         old, new.replace("#", str(n)), f"cca: refused award {fault}" if is_over else ""
     )

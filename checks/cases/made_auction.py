@@ -1,4 +1,4 @@
-"""The auction of a number, by the rules of the generator alone."""
+"""The auction of a number, only by the rules of the generator."""
 
 from __future__ import annotations
 

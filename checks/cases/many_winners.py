@@ -1,11 +1,11 @@
-"""Drawn books in which many bidders win, and books of the same kinds with few winners, with weights, or at the limits.
+"""Drawn books where many bidders win, and books of the same kinds with few winners, with weights, or at the limits.
 
 Each book is drawn from its number. There are ten families:
 
-    symmetric  all bidders bid alike for one category
+    symmetric  all bidders bid the same for one category
     concave    each further lot of a category is worth less, so that bidders are substitutes for each other
     additive   the worths of categories add up, and a bidder takes up to three lots
-    synergy    worths grow with the package, beside large bidders that lose
+    synergy    worths grow with the package, and large bidders lose
     overlap    bidders of one lot, and bidders of overlapping sets of categories
     licences   bidders of different sizes near one market price, with noise
     all_small  more lots than all bidders ask for at least
@@ -35,7 +35,7 @@ GREAT, NOISE = 2**42 - 2**20, 2**20
 
 
 class Sale(NamedTuple):
-    """What is sold at which reserves, and the bids of each bidder."""
+    """The supply, its reserves, and the bids of each bidder."""
 
     supply: Package
     reserves: Prices
@@ -51,7 +51,7 @@ class Drawn(NamedTuple):
 
 
 def packages(most: Iterable[int]) -> list[Package]:
-    """All packages but the empty one of at most so many lots of each category."""
+    """All packages with at most this many lots of each category, except the empty one."""
     return [package for package in itertools.product(*(range(count + 1) for count in most)) if any(package)]
 
 
@@ -66,7 +66,7 @@ def unit(size: int, at: int) -> Package:
 
 
 def symmetric(rng: random.Random) -> Sale:
-    """All bidders bid alike for one category."""
+    """All bidders bid the same for one category."""
     bidders = rng.randint(8, 16)
     shape = rng.choice(["flat", "down", "up", "hump"])
     worths = [0]
@@ -103,7 +103,7 @@ def additive(rng: random.Random) -> Sale:
 
 
 def synergy(rng: random.Random) -> Sale:
-    """Worths grow with the package, beside large bidders that lose."""
+    """Worths grow with the package, and large bidders lose."""
     bidders, large, size = rng.randint(12, 16), rng.randint(1, 4), rng.randint(1, 3)
     supply = tuple(rng.randint(*((12, 30), (8, 12), (6, 9))[size - 1]) for _ in range(size))
 
@@ -248,7 +248,7 @@ def book_of(sale: Sale) -> Book:
 
 
 def with_few_winners(number: int, seed: int = 1) -> Drawn:
-    """The book of a number in which only what some of its winners win is for sale, and the other winners are gone. So
+    """The book of a number with only the lots for sale that some of its winners win, and without the other winners. So
     the losers that are left compete for all of it."""
     rng, made = random.Random(f"few {seed} {number}"), drawn(number, seed)
     choice = greatest_choice(made.book)
@@ -265,8 +265,8 @@ def with_few_winners(number: int, seed: int = 1) -> Drawn:
 
 
 def greatest_choice(book: Book) -> tuple[int, ...]:
-    """The winning choice of a book, by the tables of tools/price. It only says which books are kept: who wins is tested
-    by the checkers."""
+    """The winning choice of a book, by the tables of tools/price. It only decides which books are kept. The checkers
+    test who wins."""
     filler = filler_of(book)
     return filler.picked(filler.table(book.net), book.net)
 
@@ -325,7 +325,7 @@ PRIMES = (17, 19, 23, 29, 31, 37)
 
 
 def wide(number: int, seed: int = 1) -> Drawn:
-    """A book of great amounts, with weights, whose prices most often have so great a denominator that 64 bits don't
+    """A book of great amounts, with weights, whose prices most often have a denominator so great that 64 bits don't
     suffice.
 
     For each of five categories two or three winners, whose weights add up to a prime, share what a loser bids for all
@@ -348,7 +348,7 @@ def wide(number: int, seed: int = 1) -> Drawn:
 
 
 def weights_of_sum(rng: random.Random, count: int, sums: set[int]) -> list[int]:
-    """So many weights that add up to one of these sums."""
+    """This many weights that add up to one of these sums."""
     weights = list[int]()
     while sum(weights) not in sums:
         weights = [rng.randint(1, MOST["weight"]) for _ in range(count)]

@@ -1,4 +1,4 @@
-"""Runs of tools/price on drawn books, and what the checkers say of its certificates.
+"""Runs of tools/price on drawn books, and the answers of the checkers to its certificates.
 
 A run is kept as a line of JSON, and the files of a run are kept until all checkers have judged its certificate. So a
 count can be stopped and resumed, and a checker that is built later judges what there is.
@@ -41,8 +41,8 @@ More: TypeAlias = dict[str, int | float | str]
 @dataclass
 class Record:
     """A run of tools/price on a drawn book. `line` is `yes`, or the stop. `rows`, `den_digits`, `digits` and `bytes`
-    are those of the certificate; if there is none, `rows` is how many the stop names, and `is_least` is whether fewer
-    are impossible. `judged` says for each checker whether it prints what tools/price printed."""
+    describe the certificate. If there is none, `rows` is how many the stop names, and `is_least` is whether fewer are
+    impossible. `judged` has for each checker whether it prints what tools/price printed."""
 
     number: int
     family: str
@@ -84,7 +84,7 @@ class Files(NamedTuple):
 
 
 class Ended(NamedTuple):
-    """What a run printed, what it said on standard error, its status, its processor time, and the most memory that it
+    """What a run printed, what it wrote to standard error, its status, its processor time, and the most memory that it
     or a process of its own had, in megabytes; 0 if it isn't measured."""
 
     printed: str
@@ -111,13 +111,13 @@ def ran(words: Sequence[str | pathlib.Path], **environment: str) -> Ended:
 
 
 def here(without: Sequence[str] = ()) -> list[str]:
-    """The checkers that are here, but those that are left out."""
+    """The checkers that are here, except those that are left out."""
     found = {PROGRAM: bool(os.environ.get("CCA_PROGRAM")), COURT: True, PROOF: CHECKER.exists()}
     return [judge for judge in JUDGES if found[judge] and judge not in without]
 
 
 def judge_words(judge: str, files: Files, is_weighted: bool) -> list[str | pathlib.Path]:
-    """The words that run a checker on files."""
+    """The command line that runs a checker on files."""
     if judge == COURT:
         weights = [files.weights] if is_weighted else []
         return [sys.executable, os.path.join(TOOLS, "check"), files.book, files.cert, *weights]
@@ -227,7 +227,7 @@ class Count:
 
 
 def in_order(run: Callable[[T], Record], jobs: Iterable[T], processes: int) -> Iterator[Record]:
-    """The records of jobs, in their order, by so many processes; by this one if it is one. After Ctrl-C the jobs that
+    """The records of jobs, in their order, by this many processes; for 1 by this process. After Ctrl-C the jobs that
     run are finished, but their records are lost."""
     if processes == 1:
         yield from map(run, jobs)

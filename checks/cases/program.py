@@ -1,7 +1,6 @@
 """The program that CCA_PROGRAM names, run over files in a folder of its own.
 
-The merge gate names the program that it has just proved and built. Where no program is named, the tests of it are left
-out.
+The merge gate names the program that it has just proved and built. If no program is named, its tests are skipped.
 """
 
 from __future__ import annotations
@@ -25,7 +24,7 @@ class Ended(typing.NamedTuple):
 
 
 def run(*words: str, **files: str | bytes) -> Ended:
-    """Runs the program with these words in a folder with these files alone, each by its name here."""
+    """Runs the program with these arguments in a folder with only these files, each by its name here."""
     with tempfile.TemporaryDirectory() as folder:
         for name, text in files.items():
             with open(os.path.join(folder, name), "wb") as file:

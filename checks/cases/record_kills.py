@@ -2,8 +2,8 @@
 
 A child writes lines, closes, cuts, repairs and the last line of the set, and kills itself at one of its writes, syncs,
 cuts and links: before the call, or in the middle of a write. After each step it reports what anybody has seen. Then a
-desk starts on what is left, and does what its stop asks for. Every answered line and every posted line that was seen
-has to be in log, journal and LOG.posted then, and the whole record has to agree.
+desk starts on what is left, and does what its stop asks for. Then every line with a reply and every posted line that
+was seen has to be in log, journal and LOG.posted, and the whole record has to agree.
 """
 
 from __future__ import annotations
@@ -43,7 +43,7 @@ PARTLY = 0.4  # of the kills at a write
 
 
 def closes(log: bytes) -> tuple[Sequence[int], bool]:
-    """The closes of a log, as `LogFile.post` asks for them."""
+    """The closes of a log, in the form for `LogFile.post`."""
     return closes_of(RULES, log)
 
 
@@ -125,7 +125,7 @@ class Killer:
             setattr(os, name, self.watched(name, getattr(os, name)))
 
     def watched(self, name: str, call: Callable[..., object]) -> Callable[..., object]:
-        """A call that is counted."""
+        """The call, wrapped so that it counts `left` down to the kill."""
 
         def counted(*words: Any, **more: Any) -> object:
             self.left -= 1
@@ -189,7 +189,7 @@ def started(path: pathlib.Path) -> LogFile:
 
 
 def check(path: pathlib.Path, seen: Sequence[Seen]) -> str:
-    """Starts a desk on what a kill has left, and tests it. Returns what the kill left, in words."""
+    """Starts a desk on what a kill has left, and tests it. Returns a description of what the kill left."""
     left = (path.with_name("a.log.posted").read_bytes() if path.with_name("a.log.posted").exists() else b"").count(
         b"\n"
     )
@@ -205,7 +205,7 @@ def check(path: pathlib.Path, seen: Sequence[Seen]) -> str:
 
 
 def need_answered(last: Seen, log: bytes) -> None:
-    """Tests that every answered line is in the log, if nothing was under way that takes lines away."""
+    """Tests that every line with a reply is in the log, if nothing was under way that takes lines away."""
     answered = last["log"].encode()
     if last["doing"] in ("write", "post", "posted", "started"):
         need(log.startswith(answered), "an answered line is gone", last, log)

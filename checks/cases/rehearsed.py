@@ -9,8 +9,7 @@ FORMS = ("separable", "complement", "global", "local", "packages")
 
 
 def award_of(draw: random.Random, form: str, is_small: bool) -> tuple[str, list[int]]:
-    """The text of an award. Where values are separable each bidder may win all, so that nothing but its values limits
-    it."""
+    """The text of an award. If values are separable, each bidder may win all, so that only its values limit it."""
     supply = (
         [draw.randint(1, 3), draw.randint(1, 3)] if is_small else draw.choice([[4, 6], [2, 3, 5], [1, 2, 2, 4], [9, 9]])
     )

@@ -30,8 +30,8 @@ def tool(name: str) -> ModuleType:
 
 
 def called(name: str, *words: str, **environment: str) -> tuple[str, int, str]:
-    """What a tool prints, its status, and what it says on standard error, where it is called in this process with these
-    variables in its environment."""
+    """What a tool prints, its status, and what it writes to standard error, when it is called in this process with
+    these variables in its environment."""
     with tempfile.TemporaryFile("w+") as out, tempfile.TemporaryFile("w+") as faults:
         with contextlib.redirect_stdout(out), contextlib.redirect_stderr(faults):
             with unittest.mock.patch.dict(os.environ, environment):
@@ -53,7 +53,7 @@ def lines(text: str) -> bytes:
 
 
 def taking(name: str) -> Callable[..., Any]:
-    """A tool as a function from its words to what it prints; a fault is a `Stop`."""
+    """A tool as a function from its arguments to what it prints; a fault is a `Stop`."""
     module = tool(name)
     run = getattr(module, name.replace("-", "_"))
     return lambda words: run(module.parser().words_of(words))
@@ -146,7 +146,7 @@ def spectrum() -> tuple[bytes, bytes]:
 
 
 def six_bidders() -> bytes:
-    """A certificate of examples/six-bidders.book, in which five of six bidders win."""
+    """A certificate of examples/six-bidders.book: five of six bidders win."""
     supply, reserves = (4, 1, 14, 9), (200000, 250000, 15000, 100)
     bids = [
         [((2, 0, 0, 0), 550000)],

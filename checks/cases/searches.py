@@ -93,8 +93,8 @@ def choices_of_slots(bidders: Bidders) -> Iterator[Choice]:
 
 
 def core_point(rows: Sequence[CoreRow], vickrey: Sequence[int], weights: Sequence[int]) -> list[Fraction]:
-    """The point of least sum that meets all rows, and of these the nearest to the Vickrey prices, each square divided
-    by its weight."""
+    """Among the points of least sum that meet all rows, the nearest one to the Vickrey prices, each square divided by
+    its weight."""
     n = len(vickrey)
     if n == 0:
         return []

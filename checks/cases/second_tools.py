@@ -1,5 +1,5 @@
-"""The court's own files and the rules of cca_tools, which have to answer alike, called in this process. A run that
-takes too long is an error."""
+"""The court's own files and the rules of cca_tools, which have to give the same answers, called in this process. A run
+that takes too long is an error."""
 
 from __future__ import annotations
 
@@ -27,7 +27,7 @@ def late(*_: object) -> NoReturn:
 
 
 def answer(name: str, words: Iterable[str]) -> tuple[str, int]:
-    """What a tool prints of these words, without the last line feed, and its status."""
+    """What a tool prints for these arguments, without the last line feed, and its status."""
     signal.signal(signal.SIGVTALRM, late)
     signal.setitimer(signal.ITIMER_VIRTUAL, SECONDS)
     try:

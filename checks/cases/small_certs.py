@@ -23,7 +23,7 @@ from checks.cases.searches import (
 )
 
 MOST_WINNERS = 3
-# The members of a row, its two multipliers, and its choice; and all that a certificate has of prices.
+# A row has its members, its two multipliers, and its choice. Parts are all that a certificate has of prices.
 Row: TypeAlias = tuple[list[int], int, int, tuple[int, ...]]
 Parts: TypeAlias = tuple[tuple[int, ...], dict[int, tuple[int, ...]], int, list[int], list[Row]]
 
@@ -31,8 +31,8 @@ Parts: TypeAlias = tuple[tuple[int, ...], dict[int, tuple[int, ...]], int, list[
 class Prices:
     """The winning choice with its prices, and what shows that they are right; all by the numbers of bidders from 0.
 
-    `rows` has for each set of winners the best choice without them and the bound that it gives; `first` and `second`
-    are the multipliers of those that are tight.
+    `rows` has for each set of winners the best choice without them and its bound; `first` and `second` are the
+    multipliers of those that are tight.
     """
 
     def __init__(self, choices: Sequence[Choice], nets: Sequence[Sequence[int]], weights: Sequence[int]) -> None:
@@ -73,7 +73,7 @@ class Prices:
     def sums(
         self, tight: Sequence[int], wanted: Sequence[Fraction], free: Collection[int]
     ) -> Iterator[dict[int, Fraction]]:
-        """Ways to add a few tight rows up to what is wanted at each winner, none below 0 but of rows that are free."""
+        """Ways to add up a few tight rows to what is wanted at each winner, with factors below 0 only for free rows."""
         for size in range(len(wanted) + 1):
             for rows in itertools.combinations(tight, size):
                 found = self.combination(rows, wanted)
@@ -81,7 +81,7 @@ class Prices:
                     yield {r: x for r, x in found.items() if x}
 
     def combination(self, rows: Sequence[int], wanted: Sequence[Fraction]) -> dict[int, Fraction] | None:
-        """How often each of these rows is added to come to what is wanted, None if that can't be."""
+        """The factors of these rows that add up to the wanted sums, or None if there are none."""
         lines = [self.coefficients(self.rows[r][0]) for r in rows]
         gram = [[dot(a, b) for b in lines] for a in lines]
         found = solution(gram, [dot(a, wanted) for a in lines]) if rows else []
@@ -162,7 +162,7 @@ def placed_lines(bidders: Bidders, choice: Sequence[int]) -> list[str]:
 
 
 def set_table(bidders: Bidders, worths: Sequence[Sequence[int]]) -> str:
-    """The exact table of sets: what those outside each set can still bring, where the set is placed first."""
+    """The exact table of sets: what the bidders outside each set can still bring if the set is placed first."""
     best = [0] * 2 ** len(bidders)
     for members in reversed(range(len(best) - 1)):
         start = 1 + sum(width for j, (width, _) in enumerate(bidders) if members >> j & 1)

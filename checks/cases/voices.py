@@ -1,8 +1,8 @@
-"""The voices that answer for a certificate: the court's own files tools/audit and tools/check, the rules of cca_tools,
-the program, and the checker of the second proof.
+"""The voices that judge a certificate: the court's own files tools/audit and tools/check, the rules of cca_tools, the
+program, and the checker of the second proof.
 
-`audit`, `check` and `check_places` take names of files and ask the court's file and the rules, which have to answer
-alike. They give what is printed of a yes; any other end is a `Stop`.
+`audit`, `check` and `check_places` take names of files and ask the court's file and the rules, whose answers have to be
+the same. They return what is printed if the certificate is right; any other end is a `Stop`.
 """
 
 from __future__ import annotations
@@ -32,7 +32,7 @@ from cca_tools.rules.stops import NO, REFUSED, WORDS, Stop, load
 from cca_tools.rules.weights import read_weights
 from second_proof.coq_audit.plain import NotPlain, NotToml, plain_award, plain_log
 
-# What is printed, and the status; and of each bidder its bids.
+# An answer is what is printed, and the status. Bids are the bids of each bidder.
 Answer: TypeAlias = tuple[str, int]
 Bids: TypeAlias = list[list[tuple[tuple[int, ...], int]]]
 TOOLS = os.path.join(os.path.dirname(os.path.realpath(__file__)), "..", "..", "tools")
@@ -99,7 +99,8 @@ def books(award: str, log: str) -> tuple[tuple[Bids | str, int], tuple[Bids | st
 
 
 def rules_text(command: str, names: Sequence[str]) -> str:
-    """What the rules of cca_tools say of these files, as `cca` prints it; any other end than a yes is a `Stop`."""
+    """The answer of the rules of cca_tools to these files, in the form that `cca` prints. It raises `Stop` if they
+    don't accept."""
     files = dict(zip(FILES[command], names))
     if command == "place-check":
         slots = read_slots(load(files["slots"], "slots"))
@@ -132,7 +133,8 @@ def rules_answer(command: str, names: Sequence[str]) -> tuple[str, int]:
 
 
 def is_alike(*said: tuple[object, int]) -> bool:
-    """Whether all say the same. The court's file, which is first, gives no verdict of an award that isn't TOML 1.0."""
+    """Whether all give the same answer. The court's file, which is first, gives no verdict on an award that isn't TOML
+    1.0."""
     first, *others = said
     return all(one == others[0] for one in others) and (first == others[0] or first[1] == NO_VERDICT)
 
@@ -159,7 +161,7 @@ def plain_files(award: bytes, log: bytes, cert: bytes) -> tuple[bytes, bytes, by
 
 def checker_answer(command: str, texts: Sequence[bytes]) -> tuple[str, int]:
     """What the checker of the second proof prints for these texts, and the status. An audit gets the plain spellings of
-    the award and the log, as `second_proof/audit` does."""
+    the award and the log, like `second_proof/audit`."""
     try:
         texts = plain_files(texts[0], texts[1], texts[2]) if command == "audit" else texts
     except Stop as stop:
@@ -173,13 +175,13 @@ def checker_answer(command: str, texts: Sequence[bytes]) -> tuple[str, int]:
 
 def is_confirmed(checked: tuple[str, int], said: tuple[str, int]) -> bool:
     """Whether an answer of the second proof's checker is the answer `said`. It numbers no part of an award or a log
-    that it refuses, and reads TOML 1.0 alone."""
+    that it refuses, and reads only TOML 1.0."""
     unnumbered = re.sub(r"^(cca: refused (?:award|log)) .*", r"\1", said[0]), said[1]
     return checked in (said, unnumbered) or checked[1] == NO_VERDICT
 
 
 def agreed(command: str, names: Sequence[str]) -> str:
-    """What the court's file and the rules say alike, or a `Stop`."""
+    """The common answer of the court's file and the rules; raises `Stop` for any other end."""
     said = court_answer(command, names)
     if said == ("cca: words", WORDS):
         raise Stop(*said)

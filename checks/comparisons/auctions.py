@@ -3,9 +3,9 @@ ones.
 
 NUMBER runs of each kind: drawn auctions, with lines that are refused for each reason and with ends and none; awards
 with a rule broken; awards of any TOML and of none; logs with a record that states no line; logs of any CSV; audits of
-certificates as they were written and altered, and a few runs with other words, the samples, made auctions and logs of
-100,000 records. Compared are the printed lines, the exit status and the appended book. It prints how many differ of
-each kind, and how often each answer came. What differs is kept in checks/out.
+certificates as they were written and altered, and a few runs with other arguments, the samples, made auctions and logs
+of 100,000 records. It compares the printed lines, the exit status and the appended book. It prints how many runs of
+each kind differ, and how often each answer came. It keeps what differs in checks/out.
 """
 
 from __future__ import annotations
@@ -97,7 +97,7 @@ def answer_of(line: str) -> str:
 
 
 def compare_auction(tally: Tally, kind: str, award: bytes, log: bytes) -> tuple[str, str] | None:
-    """Compares one run of `auction`; gives the names of the files where a book was written."""
+    """Compares one run of `auction`; returns the names of the files if a book was written."""
     names = path_of("random.award", award), path_of("random.log", log), path_of("random.book")
     printed, status = ours("auction", *names)
     written = read(names[2])
@@ -137,7 +137,7 @@ def compare_audit(tally: Tally, kind: str, files: Mapping[str, bytes]) -> None:
 
 
 def compare_audits(rng: random.Random, tally: Tally, names: tuple[str, str]) -> None:
-    """Audits of the certificate that `award` writes: as it is, altered, and with another award or log."""
+    """Audits of the certificate that `award` writes: unchanged, altered, and with another award or log."""
     cert = path_of("random.cert")
     if ours("award", *names, cert)[1] != 0:
         return
@@ -154,7 +154,7 @@ def compare_audits(rng: random.Random, tally: Tally, names: tuple[str, str]) -> 
 
 
 def compare_words(tally: Tally) -> None:
-    """The words, missing files and long ones."""
+    """The arguments, missing files and long ones."""
     award, log, cert = (os.path.join(EXAMPLES, name) for name in ("spectrum.award", "spectrum.log", "day-cramton.cert"))
     long_award, long_log = path_of("long.award", whole(award) + b"#" * 65_536), path_of("long.log", b"\n" * 8_388_609)
     most = path_of("most.log", b"close,,,\n" * 100_000), path_of("more.log", b"close,,,\n" * 100_000 + b"x")

@@ -2,14 +2,11 @@
 placements.
 
 `price`, `weigh` and `place` have to print the prices that checks/cases/searches.py finds. The certificates that they
-write, certificates that are
-written otherwise, and books, weights, slots and certificates that are changed in a number, a byte, a line or a field,
-have to get the same
-line and the same status from `check`, `weigh-check` and `place-check` and from tools/check and tools/check-places. What
-tools/why says of
-a certificate has to come to what is paid. It prints how often each kind of text was compared and how often each answer
-came; the last
-line says how much differs, and the status is 1 if anything does.
+write, certificates in other forms, and books, weights, slots and certificates that are changed in a number, a byte, a
+line or a field, have to get the same line and the same status from `check`, `weigh-check` and `place-check` and from
+tools/check and tools/check-places. The amounts that tools/why shows for a certificate have to add up to what is paid.
+It prints how often each kind of text was compared and how often each answer came; the last line says how much differs,
+and the status is 1 if anything does.
 """
 
 from __future__ import annotations
@@ -62,8 +59,8 @@ class Comparison:
             self.tell(kind, f"printed\n{printed}wanted\n{wanted}\nof " + "\n".join(map(read, words[1:-1])))
 
     def answers_of(self, kind: str, command: str, tool: str, names: Sequence[str]) -> None:
-        """Both programs have to answer alike. The names are in the order of the second program, which has the weights
-        last."""
+        """Both programs have to give the same answer. The names are in the order of the second program, which has the
+        weights last."""
         words = [names[0], names[2], names[1]] if len(names) == 3 else names
         ours = subprocess.run([CCA, command, *words], capture_output=True, text=True)
         said, status = answer(tool, names)
@@ -95,7 +92,7 @@ def random_book(rng: random.Random) -> DrawnBook:
     supply = [7, 7, 7, 8] if kind == 1 else [rng.randint(1, 2) for _ in range(rng.choice([1, 2, 3]))]
     reserves = [rng.choice([0, 0, 1, 3]) for _ in supply]
     every = [p for p in itertools.product(*(range(s + 1) for s in supply)) if any(p)]
-    # small amounts tie often, and great ones come near the ends of numbers
+    # small amounts tie often, and great ones come near the limits of numbers
     bidders: list[list[tuple[tuple[int, ...], int]]] = []
     top = rng.choice([3, 12, 12, 2**41])
     for _ in range(rng.choice([0, 1, 2, 3, 3, 4, 4, 5, 5])):
@@ -162,7 +159,7 @@ def spaced(word: str, numbers: Iterable[int]) -> str:
 
 
 def changed(rng: random.Random, text: str) -> Iterator[tuple[str, str]]:
-    """Texts that come of a certificate, each with the kind of its change."""
+    """Texts that are made from a certificate, each with the kind of its change."""
     yield "as made", text
     yield "scaled", scaled(rng, text)
     yield "wider", widened(rng, text)
@@ -171,7 +168,7 @@ def changed(rng: random.Random, text: str) -> Iterator[tuple[str, str]]:
 
 
 def compare_certs(comparison: Comparison, rng: random.Random, command: str, tool: str, names: Sequence[str]) -> None:
-    """The certificate, the second of the names, as it is and changed."""
+    """The certificate, which is the second of the names, unchanged and changed."""
     if command != "place-check":
         compare_why(comparison, names)
     text, other = read(names[1]), out("other.cert")
@@ -182,7 +179,7 @@ def compare_certs(comparison: Comparison, rng: random.Random, command: str, tool
 
 
 def compare_why(comparison: Comparison, names: Sequence[str]) -> None:
-    """What tools/why says of a certificate has to come to what is paid, winner by winner and coalition by coalition."""
+    """The amounts of tools/why have to add up to what is paid, winner by winner and coalition by coalition."""
     book = read_book(load(names[0], "book"))
     weights = read_weights(load(names[2], "weights"), book) if len(names) == 3 else None
     certificate = read_certificate(load(names[1], "cert"), book)

@@ -1,8 +1,8 @@
-"""Compares the court's own files with the rules of cca_tools, with the program where CCA_PROGRAM names one, and with
-the checker of the second proof where `second_proof/build` has made it.
+"""Compares the court's own files with the rules of cca_tools, with the program if CCA_PROGRAM names one, and with the
+checker of the second proof if `second_proof/build` has made it.
 
-The court's files are tools/audit and tools/check, the cases are drawn and altered, and some have numbers that no
-machine's word holds. It prints how often each command was answered how, what differs, and last how much differs; the
+The court's files are tools/audit and tools/check, the cases are drawn and altered, and some have numbers that don't fit
+into a machine's word. It prints how often each command had each answer, what differs, and last how much differs; the
 status is 1 if something differs.
 """
 

@@ -2,10 +2,10 @@
 the files that they leave.
 
 Each command runs on each sample: with all of its options, without a file, with an argument more or less, and on an
-output that holds something. Then come NUMBER runs on drawn files: samples with changed bytes, lines and numbers, as
-`files` draws them, and books, slots and auctions with right and altered certificates, as `court` draws them. It prints
-how many runs of each command ended with each status, and each run that differs, whose files are kept in checks/out. The
-status is 1 if something differs.
+output that isn't empty. Then come NUMBER runs on drawn files: samples with changed bytes, lines and numbers, drawn by
+`files`, and books, slots and auctions with right and altered certificates, drawn by `court`. It prints how many runs of
+each command ended with each status, and each run that differs, whose files are kept in checks/out. The status is 1 if
+something differs.
 """
 
 from __future__ import annotations
@@ -62,7 +62,7 @@ TABLE = tuple(Command(*row) for row in COMMANDS)
 
 
 def ended(program: str, run: Run) -> Ended:
-    """How a program ends in a folder with these files alone."""
+    """How a program ends in a folder with only these files."""
     with tempfile.TemporaryDirectory() as name:
         folder = pathlib.Path(name)
         for kind, text in run.files.items():

@@ -1,10 +1,10 @@
 """Compares what economists use with an enumeration, with other spellings, and with one machine.
 
 BOOKS drawn books: winners, prices and Vickrey prices of tools/prices, prices nearest to other points of reference, the
-greatest value and ties, against a program that goes through all choices and coalitions. TABLES drawn tables, each in
-the spellings of spreadsheets of three countries, of R and of pandas: tools/book has to read the same bids in all.
-AUCTIONS auctions of a study on workers of Dask, of which one is killed, one has another program and one has none, and
-whose scheduler is killed once: table, bidders and page have to be those of one machine, byte for byte.
+greatest value and ties, against a program that visits all choices and coalitions. TABLES drawn tables, each in the
+spellings of spreadsheets of three countries, of R and of pandas: tools/book has to read the same bids in all. AUCTIONS
+auctions of a study on workers of Dask. One worker is killed, one has another program, one has none, and the scheduler
+is killed once: table, bidders and page have to be the same as on one machine, byte for byte.
 """
 
 from __future__ import annotations
@@ -128,7 +128,7 @@ def book_faults(book: Book, folder: str) -> Iterator[str]:
 
 
 def drawn_bids(draw: random.Random) -> Bids:
-    """Bids of two or three bidders for packages of two categories, of which some amounts decide the decimal mark."""
+    """Bids of two or three bidders for packages of two categories; some amounts decide the decimal mark."""
     packages = [it for it in itertools.product(range(4), range(3)) if any(it)]
     names = draw.sample(["North Tel", "Süd", "Öst AG", "b 7", "west", "Île"], draw.randint(2, 3))
     bids: Bids = {}
@@ -220,7 +220,7 @@ def table_faults(bids: Bids) -> Iterator[str]:
 
 
 def frame_faults(bids: Bids) -> Iterator[str]:
-    """What differs if a frame of pandas is read as it is."""
+    """What differs if a frame of pandas is read directly."""
     import pandas
 
     frame = pandas.DataFrame(rows_of(bids), columns=["bidder", "low", "high", "amount"]).astype({"amount": float})
@@ -245,7 +245,7 @@ class Cluster:
 
     @staticmethod
     def started(folder: pathlib.Path, words: Sequence[str], variables: dict[str, str]) -> subprocess.Popen[bytes]:
-        """A process, that doesn't find the package but by the study."""
+        """A process that finds the package only through the study."""
         env = {name: it for name, it in os.environ.items() if name != "PYTHONPATH"} | variables
         quiet = subprocess.DEVNULL
         return subprocess.Popen([sys.executable, "-m", *words], cwd=folder, env=env, stdout=quiet, stderr=quiet)
@@ -305,8 +305,8 @@ def dask_faults(folder: pathlib.Path, auctions: int) -> Iterator[str]:
 
 
 def cluster_faults(folder: pathlib.Path, auctions: int, path: str, other: str) -> Iterator[str]:
-    """What is wrong with a study on three workers, of which one and then their scheduler is killed, and that goes on
-    with three others, of which two can't hold it."""
+    """What is wrong with a study on three workers. One of them and then their scheduler is killed. The study goes on
+    with three others, and two of these can't run it."""
     out, first = folder / "dask", Cluster(folder, "first", [path, path, path])
     try:
         with study(folder, "dask", "--scheduler", first.address()) as running:

@@ -28,7 +28,7 @@ def sample(name: str) -> str:
 
 
 def winners(count: int, others: int) -> tuple[str, str]:
-    """A book in which this many bidders win, and weights: 1 for all but the last few."""
+    """A book where this many bidders win, and weights: 1 for all except the last few."""
     book = "".join(f"bidder b{j}\nbid 1 5\n" for j in range(count))
     weights = "".join(f"weight b{j} {1 if j < count - others else 2}\n" for j in range(count))
     return f"book 1\nsupply 11\nreserve 0\n{book}end\n", f"weights 1\n{weights}end\n"

@@ -3,10 +3,10 @@ and time.
 
 A run changes one or two files of a sample (bytes, lines, numbers, prefixes, parts of another file), draws a command,
 and now and then a limit of memory, one of file size, or an output that takes nothing. It has to end in time with a
-status of the table and its line; the files that it reads stay as they are, and the file that it appends to holds what
-it held: all of the new text after a run that is done, a prefix of it after a fault of writing, and nothing new
+status of the table and its line. The files that it reads stay unchanged. The file that it appends to keeps its old
+text, followed by all of the new text after a run that is done, a prefix of it after a fault of writing, and nothing new
 otherwise. It prints how often each command ended with each status. Then come the cases of `edge_cases.py`. It needs
-python3, and strace for what is said of syncs.
+python3, and strace for the tests of syncs.
 """
 
 from __future__ import annotations
@@ -67,7 +67,7 @@ NUMBERS = [
 
 
 def originals() -> list[dict[str, bytes]]:
-    """The samples by name: what each kind of file holds."""
+    """The samples by name: the bytes of each kind of file."""
 
     def read(name: str) -> bytes:
         with open(os.path.join(EXAMPLES, name), "rb") as f:
@@ -190,7 +190,7 @@ def read_files(names: Iterable[str]) -> dict[str, bytes]:
 
 
 def one(rng: random.Random, samples: Sequence[Mapping[str, bytes]], folder: str) -> tuple[str, int]:
-    """Draws a run and tests how it ended; gives the command and the status."""
+    """Draws a run and tests how it ended; returns the command and the status."""
     command, inputs, output, flags = rng.choice(COMMANDS)
     sample = rng.choice(samples)
     texts: dict[str, bytes | None] = {kind: sample[kind] for kind in inputs}

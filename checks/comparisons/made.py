@@ -24,7 +24,7 @@ def read(name: str) -> bytes:
 
 
 def fresh(*words: str) -> tuple[float, str]:
-    """The CPU time of a run over no file of an earlier one, and what it prints."""
+    """Removes the files of an earlier run. Returns the CPU time of a run, and what it prints."""
     for word in words:
         if os.path.isabs(word) and os.path.exists(word):
             os.remove(word)
@@ -32,7 +32,7 @@ def fresh(*words: str) -> tuple[float, str]:
 
 
 def is_made(number: int) -> tuple[bool, float]:
-    """Whether a run of make appends and prints what the generator gives, and its CPU time."""
+    """Whether a run of make appends and prints what the generator returns, and its CPU time."""
     log = log_text(number)
     time, printed = fresh("make", str(number), AWARD, LOG)
     line = f"made {number} bidders {BIDDERS} lines {log.count(chr(10))}\n"

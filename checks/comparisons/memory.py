@@ -2,12 +2,12 @@
 
 The commands are `award`, `audit` and `auction` on the sample in the form of the UK's award, `price` and `check` on
 books of one and of several turns, `place` and `place-check` on a band, and `review` on edits of each kind. After a
-refused request the run has to end with out of memory, its line alone printed and every file as it was, or with the
-result of a run in which nothing is refused: where the program can do without the memory. A request that comes before
-`main` has its words may end it with 6 and no line. So it is for the desk, by its replays of logs with each kind of
-line: a line that is answered with out of memory is handed in again, and all replies have to be those of a desk that
-never saw it refused. It prints, for each command and for the desk, how many requests it makes and how the runs ended.
-It needs a C compiler, python3 and a program that is linked to the system's library.
+refused request the run has to end with out of memory, only its line printed and every file unchanged, or with the
+result of a run where nothing is refused, if the program can do without the memory. A request that comes before `main`
+has its arguments may end it with 6 and no line. The desk is tested in the same way, by its replays of logs with each
+kind of line: a line whose reply is out of memory is handed in again, and all replies have to be the same as those from
+a desk that never saw it refused. It prints, for each command and for the desk, how many requests it makes and how the
+runs ended. It needs a C compiler, python3 and a program that is linked to the system's library.
 """
 
 from __future__ import annotations
@@ -31,7 +31,7 @@ Ended: TypeAlias = tuple[int, bytes, bytes, dict[str, bytes]]
 HELD = b"held before\n"
 MEMORY = 6
 
-# Refuses the request whose number is in REFUSED, and says so by making the file TOLD.
+# Refuses the request whose number is in REFUSED, and reports this by making the file TOLD.
 REFUSER = r"""
 #include <errno.h>
 #include <fcntl.h>
@@ -100,7 +100,7 @@ def run(library: str, words: Sequence[str], files: Mapping[str, bytes], refused:
 
 
 def kind_of(ended: Ended, whole: Ended, files: Mapping[str, bytes]) -> str | None:
-    """How a run ended beside one without a refusal, or None if it must not end so."""
+    """How a run ended, compared with one without a refusal, or None if it must not end so."""
     status, printed, errors, behind = ended
     if ended == whole:
         return "done all the same"

@@ -1,10 +1,10 @@
-"""Compares the page `audit.html` of the second proof, in a headless Chromium, with `cca`: what it answers, and under
-which heading.
+"""Compares the page `audit.html` of the second proof, in a headless Chromium, with `cca`: its answer, and under which
+heading.
 
-The cases are those of `checks/compare second-proof`: certificates of drawn books, weights and slots, as made, altered
-and damaged, damaged subjects, and drawn logs with certificates of theirs. Each is given to the page as files, and the
-test is started as its button does. For a log alone the worker of the page is asked for the replies and the book. It
-needs `second_proof/build page` and a Chromium.
+The cases are the same as in `checks/compare second-proof`: certificates of drawn books, weights and slots, as made,
+altered and damaged, damaged subjects, and drawn logs with their certificates. The page gets each as files, and the test
+is started in the same way as by its button. For only a log, the worker of the page is asked for the replies and the
+book. It needs `second_proof/build page` and a Chromium.
 """
 
 from __future__ import annotations
@@ -79,7 +79,7 @@ class OnPage(Comparison):
 
 
 def main(number: int, seed: int) -> int:
-    """Draws cases until there are so many, and prints the counts."""
+    """Draws cases until there are this many, and prints the counts."""
     if not os.path.exists(PAGE) or not os.path.exists(CHECKER):
         sys.exit("checks/compare page: run second_proof/build page first")
     rng = random.Random(seed)

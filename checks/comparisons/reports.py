@@ -1,9 +1,9 @@
 """Compares what a report says with what the program prints, on drawn auctions and books.
 
 For each of NUMBER drawn auctions the program prices the book, and the report has to agree: every reply; for each winner
-its package, its bid, its Vickrey price and what it pays; a sum of what the others would bring more that comes to the
+its package, its bid, its Vickrey price and what it pays; a sum of what the others would bring more that equals the
 Vickrey price; the revenue and the net value; as many turns as the program has. And for each bidder, from the whole log
-and from its own view alone, the same report. It has to agree on NUMBER drawn books too, and there no group of winners
+and from only its own view, the same report. It has to agree on NUMBER drawn books too, and there no group of winners
 may pay less than it has to. Every tenth is made as a page too. It needs the program; the status is 1 if something
 differs.
 """
@@ -31,7 +31,7 @@ from cca_tools.rules.log import read_log
 from cca_tools.rules.types import Package
 from cca_tools.rules.view import view_text
 
-# The words, the form and the tone of a cell; the rows of a table; and how often things came.
+# A cell has its text, its form and its tone; a table has rows of cells. Counts say how often each text came.
 Cell: TypeAlias = tuple[str, str, str]
 Rows: TypeAlias = list[list[Cell]]
 Counts: TypeAlias = collections.Counter[str]
@@ -66,7 +66,7 @@ def printed(*words: str | pathlib.Path) -> list[str]:
 
 
 def tables(made: Page, key: str) -> Iterator[tuple[str, Rows]]:
-    """The tables of a section in order, each with its title and the words and the forms of its cells."""
+    """The tables of a section in order, each with its title and the texts and the forms of its cells."""
     left: list[Any] = [block for section in made.sections if section.key == key for block in section.blocks]
     while left:
         block = left.pop(0)
@@ -109,7 +109,7 @@ def sums_of_all_differ(made: Page, net: str, revenue: str) -> bool:
 
 
 def turns(made: Page) -> list[bool]:
-    """How many turns a report has, and of each whether some coalition blocks in it."""
+    """For each turn of a report, whether no coalition blocks in it."""
     blocks: list[Any] = [block for section in made.sections for block in section.blocks]
     unfolded = [it for block in blocks for it in getattr(block, "blocks", (block,))]
     cards = [card for block in unfolded for card in getattr(block, "cards", ())]
@@ -117,7 +117,7 @@ def turns(made: Page) -> list[bool]:
 
 
 def sums_differ(made: Page) -> bool:
-    """Whether some sum of what the others would bring more isn't the Vickrey price that is among the winners."""
+    """Whether some sum of what the others would bring more differs from the Vickrey price in the table of winners."""
     own, prices = dict(tables(made, "why")), {
         row[0][0]: int(exactly(row[-3])) for row in table(made, "winners", WINNERS)
     }
@@ -143,7 +143,7 @@ def view_differs(files: Sequence[pathlib.Path], facts: source.Source) -> bool:
 
 
 def compared(number: int, rng: random.Random, counts: Counts) -> Iterator[str]:
-    """What differs for one drawn auction, in words."""
+    """A description of what differs for one drawn auction."""
     terms, supply, bidders = terms_of(rng)
     text = text_of(terms)
     files = [FOLDER / "award", FOLDER / "log", FOLDER / "cert"]
@@ -194,7 +194,7 @@ def drawn_book(rng: random.Random) -> str:
 
 
 def book_differs(number: int, rng: random.Random, counts: Counts) -> Iterator[str]:
-    """What differs for one drawn book, in words."""
+    """A description of what differs for one drawn book."""
     book, cert = FOLDER / "drawn.book", FOLDER / "drawn.cert"
     book.write_text(drawn_book(rng))
     cert.unlink(missing_ok=True)

@@ -1,15 +1,15 @@
 """Compares the programs that are extracted from the second proof with `cca`: their output and status
 they end.
 
-`check`, `weigh-check` and `place-check` are run on certificates that `cca` wrote of drawn books and slots: as they were
-made, with another denominator, with other numbers (entries, payments, rows, choices, orders), with damaged lines and
-bytes, on damaged books, weights and slots, about the limits, on the sample of the spectrum, on files that are missing,
-and with other words. Of drawn logs what `cca auction` prints and writes has to be what `auction` of the second proof
-prints, and both audit certificates of them, as made, altered and damaged. It prints how many runs of each kind there
-were, how many differ, and how often each answer and reply came; Ctrl-C prints what there is so far.
+`check`, `weigh-check` and `place-check` are run on certificates that `cca` wrote for drawn books and slots: as they
+were made, with another denominator, with other numbers (entries, payments, rows, choices, orders), with damaged lines
+and bytes, on damaged books, weights and slots, about the limits, on the sample of the spectrum, on files that are
+missing, and with other arguments. For drawn logs, what `cca auction` prints and writes has to be what `auction` of the
+second proof prints, and both audit certificates of them, as made, altered and damaged. It prints how many runs of each
+kind there were, how many differ, and how often each answer and reply came; Ctrl-C prints what there is so far.
 
-It builds second_proof with `second_proof/build` where that isn't built yet. CCA_PROGRAM=path runs that program of cca.
-It needs python3, coqc and ocamlopt.
+It builds second_proof with `second_proof/build` if that isn't built yet. CCA_PROGRAM=path runs that program of cca. It
+needs python3, coqc and ocamlopt.
 """
 
 from __future__ import annotations
@@ -31,7 +31,7 @@ from cca_tools.rules.auction import replay
 from cca_tools.rules.award import read_award
 from cca_tools.rules.log import read_log
 
-# A package with a net amount; and of each bidder what it asked for in the clock, with its prices.
+# A package with a net amount. For each bidder: what it asked for in the clock, with its prices.
 NetBid: TypeAlias = tuple[list[int], int]
 Asked: TypeAlias = Sequence[Sequence[tuple[Sequence[int], int]]]
 SECOND = os.path.join(HERE, "..", "second_proof")
@@ -41,7 +41,7 @@ NUMBER = re.compile(r"-?[0-9]+")
 
 
 def prepared() -> str:
-    """The program of cca, with both built where they aren't."""
+    """The path of cca's program; builds both programs if they aren't built."""
     if not os.path.exists(CHECKER):
         subprocess.run([os.path.join(SECOND, "build")], check=True, stdout=subprocess.DEVNULL)
     build_cca()
@@ -98,7 +98,8 @@ def drawn_slots(rng: random.Random) -> str:
 
 
 def mapped(text: str, change: Callable[[str, list[str], bool], list[str]]) -> str:
-    """The text with each line changed by its word and its fields; "lowered" says that the lowered table has begun."""
+    """The text with each line changed by its word and its fields; "lowered" is the state after the lowered table has
+    begun."""
     lines, lowered = [], False
     for line in text.splitlines():
         word, *fields = line.split(" ")
@@ -119,7 +120,7 @@ def scaled(rng: random.Random, text: str) -> str:
 
 
 def one_line(rng: random.Random, text: str, words: Collection[str]) -> tuple[list[str], int | None]:
-    """The number of some line that begins with one of these words, if there is one."""
+    """The lines of a text, and the number of some line whose first word is among `words`, if there is one."""
     lines = text.splitlines()
     found = [n for n, line in enumerate(lines) if line.split(" ")[0] in words]
     return lines, rng.choice(found) if found else None
@@ -397,7 +398,7 @@ def drawn_line(rng: random.Random, supply: Sequence[int], bidders: int, kinds: S
 
 
 def drawn_round(rng: random.Random, supply: Sequence[int], bidders: int) -> list[str]:
-    """A clock round in which most bidders ask for much, with a few other lines, and its close."""
+    """A clock round where most bidders ask for much, with a few other lines, and its close."""
     eager = [j for j in range(bidders) if rng.random() < 0.9]
     lines = [f"bid,b{j},{' '.join(str(rng.choice([s, rng.randint(s // 2, s)])) for s in supply)}," for j in eager]
     lines += [
@@ -453,7 +454,7 @@ def drawn_log(rng: random.Random, award: str, supply: Sequence[int], bidders: in
 
 
 class Comparison:
-    """Runs of both programs, and what they came to."""
+    """Runs of both programs, and their results."""
 
     def __init__(self, cca: str, folder: str) -> None:
         self.cca, self.folder = cca, folder
@@ -484,11 +485,11 @@ class Comparison:
             print(f"{kind}: differs, see {keep}")
 
     def check(self, kind: str, command: str, texts: Mapping[str, str]) -> None:
-        """Both programs on these files, in the order of the command's words."""
+        """Runs both programs on these files, in the order of the command's arguments."""
         self.both(kind, [command] + [self.path(name, text) for name, text in texts.items()], texts)
 
     def both(self, kind: str, words: Sequence[str], texts: Mapping[str, str]) -> None:
-        """Both programs with these words."""
+        """Runs both programs with these arguments."""
         ours, theirs = (
             subprocess.run([program, *words], capture_output=True, text=True) for program in (self.cca, CHECKER)
         )
@@ -537,7 +538,7 @@ class Comparison:
 
 
 def drawn_subject(rng: random.Random) -> tuple[str, str, dict[str, str]]:
-    """The words that write and test a certificate, and the files that it is of."""
+    """The commands that write and test a certificate, and the files that it is for."""
     kind = rng.randrange(10)
     if kind < 3:
         return "place", "place-check", {"slots": drawn_slots(rng)}
@@ -631,7 +632,7 @@ def run_spectrum(rng: random.Random, comparison: Comparison) -> None:
 
 
 def run_all(rng: random.Random, number: int, comparison: Comparison) -> None:
-    """Drawn files, and then words, limits and the sample."""
+    """Drawn files, and then arguments, limits and the sample."""
     while sum(comparison.kinds.values()) < number:
         runs_of(rng, comparison)
         comparison.log(rng)

@@ -1,10 +1,10 @@
 """Tests the predictions of theory for whole auctions of bidders that follow their values, on drawn awards and values.
 
 NUMBER auctions of award version 1, from number FIRST on, with bidders that are straightforward in the clock and list
-every package with its value: each line has to be admitted by the program, no winner may pay more than its value, and
-where values are separable with decreasing marginal values, each price has to be the Vickrey price. Then 20 small
-auctions, in which efficiency and revenue have to be those of a program that visits all allocations. It prints what
-isn't so, and ends with 1 then.
+every package with its value: each line has to be admitted by the program, no winner may pay more than its value, and if
+values are separable with decreasing marginal values, each price has to be the Vickrey price. Then 20 small auctions,
+where efficiency and revenue have to be the same as from a program that visits all allocations. It prints what is wrong,
+and ends with 1 then.
 """
 
 from __future__ import annotations
@@ -22,7 +22,7 @@ SMALL = 20
 
 
 def told(results: Iterable[tuple[int, tuple[str, list[str]]]]) -> int:
-    """Prints the faults, and gives how many auctions of each form there were, and how many have one."""
+    """Prints the faults, and returns the number of auctions of each form, and the number with a fault."""
     counts: collections.Counter[str] = collections.Counter()
     wrong = 0
     for number, (form, found) in results:

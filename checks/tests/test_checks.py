@@ -1,7 +1,7 @@
 """The programs of build/, checks/ and bench/ on small numbers, so that none rots: what compares, what draws, and the
 site of the documents.
 
-Times aren't tested. Each comparison ends with 0 only where nothing differs.
+Times aren't tested. Each comparison ends with 0 only if nothing differs.
 """
 import ast
 import collections
@@ -18,7 +18,7 @@ from checks.cases.program import PROGRAM, with_program
 
 ROOT = pathlib.Path(__file__).resolve().parents[2]
 FOLDERS = ("build", "checks", "bench")
-# With which numbers a comparison runs here, and the line that says that it compared something.
+# The numbers of a comparison's run here, and the line that shows that it compared something.
 SMALL = {
     "books": (["2"], r"^\d{2,} compared, 0 differ$"),
     "explain": (["30"], r"^30 runs, 0 differ$"),
@@ -30,7 +30,7 @@ SMALL = {
     "files": (["30"], r"^30 runs, seed 1: all ended as they have to$"),
     "earlier": (["20"], r"^335 runs, 0 differ$"),
 }
-# What runs long even on small numbers, and what it would need.
+# Comparisons that run long even on small numbers, and what they need.
 NOT_RUN = {
     "auctions": "logs of 100,000 records",
     "second-proof": "coq",
@@ -40,7 +40,7 @@ NOT_RUN = {
 
 
 def ran(*words: str, earlier: str = PROGRAM or "") -> subprocess.CompletedProcess[str]:
-    """A program with these words."""
+    """Runs a program with these arguments."""
     how = {**os.environ, "CCA_PROGRAM": PROGRAM or "", "CCA_EARLIER": earlier, "PYTHONDONTWRITEBYTECODE": "1"}
     argv = [sys.executable, str(ROOT / words[0]), *words[1:]]
     return subprocess.run(argv, capture_output=True, text=True, env=how, stdin=subprocess.DEVNULL)
@@ -62,7 +62,7 @@ def programs() -> list[str]:
 
 class Bench(unittest.TestCase):
     def test_each_program_has_help(self) -> None:
-        """It names its words, says what its docstring says, and runs nothing."""
+        """It names its arguments, shows its docstring, and runs nothing."""
         for name in programs():
             with self.subTest(name=name):
                 done = ran(name, "--help")
@@ -95,7 +95,7 @@ class Bench(unittest.TestCase):
 
     @with_program
     def test_another_program_is_seen(self) -> None:
-        """Each run of `win` differs if the earlier program answers it otherwise: 7 on each of 3 samples."""
+        """Each run of `win` differs if the earlier program gives another answer: 7 on each of 3 samples."""
         with tempfile.TemporaryDirectory() as folder:
             path = pathlib.Path(folder, "other")
             path.write_text(
@@ -108,8 +108,8 @@ class Bench(unittest.TestCase):
 
     @with_program
     def test_times_of_the_court_s_files(self) -> None:
-        """On files of a hundredth of the limits `cca` and tools/audit answer alike, and the written certificate gets
-        yes."""
+        """On files of a hundredth of the limits `cca` and tools/audit give the same answers, and the written
+        certificate gets yes."""
         done = ran("bench/times", "court", "1", "100")
         self.assertEqual((done.returncode, done.stderr), (0, ""), done.stdout)
         rows = re.findall(r"^(award|log|certificate) .*  (yes|no|cca: \w+)", done.stdout, re.MULTILINE)
@@ -122,7 +122,7 @@ class Bench(unittest.TestCase):
         self.assertEqual((done.returncode, done.stdout, done.stderr), (0, "nothing differs\n", ""))
 
     def test_a_difference_is_seen(self) -> None:
-        """A copy in which a page isn't what is drawn."""
+        """A copy with a page that isn't what is drawn."""
         with tempfile.TemporaryDirectory() as folder:
             for part in ("build", "checks", "docs"):
                 shutil.copytree(

@@ -1,4 +1,4 @@
-"""Auctions through the pages of the desk in a browser, with slips of the people who sit at it."""
+"""Auctions through the pages of the desk in a browser, with mistakes of its users."""
 
 from __future__ import annotations
 
@@ -36,7 +36,7 @@ class InABrowser(unittest.TestCase):
         self.need_held(r"\n5 auctions, 0 differ; ", "narrow", "room", "two", "entered_again", "csv_file")
 
     def need_held(self, said: str, *names: str) -> None:
-        """Holds auctions, each of which has to go as it says."""
+        """Holds auctions; each has to print what it should."""
         variables = {**os.environ, "CCA_PROGRAM": os.path.abspath(PROGRAM or "")}
         words = [sys.executable, str(SCRIPT), *names, "--plain"]
         done = subprocess.run(words, env=variables, capture_output=True, text=True)

@@ -44,7 +44,7 @@ class Judge(unittest.TestCase):
                 self.assertEqual(found(setting, end), [])
 
     def test_statuses(self) -> None:
-        """A no without its line, a status that the fault can't lead to, and one without a sentence."""
+        """A rejection without its line, a status that the fault can't lead to, and one without a sentence."""
         files = WHOLE._replace(files=BEFORE, printed=b"")
         for setting, end, told in (
             (FAILS, files._replace(status=1), "status 1, and not one of [0, 4, 5, 6, 70]"),

@@ -5,7 +5,7 @@ import unittest
 ROOT = pathlib.Path(__file__).resolve().parents[2]
 OF_THE_GATE = sorted(ROOT.glob("crates/*/must-fail/*.edit"))
 MORE = sorted(ROOT.glob("crates/*/wrong/*.edit"))
-# The wrong programs that no contract may let through: the gate tries these.
+# The wrong programs that no contract may let through: the gate tests these.
 NAMED = {
     "value_table": ["takes_the_first_bids_that_fit_until_the_supply_is_gone", "lets_two_bids_of_one_bidder_win"],
     "core_price": [

@@ -105,8 +105,8 @@ class Counts(unittest.TestCase):
         self.folder = pathlib.Path(folder.name, "counted")
 
     def count(self, *words: str, under: str = "", program: str | None = None) -> tuple[list[str], int]:
-        """The lines that the program prints with these words and this program of cca, with its records under a folder,
-        and its status."""
+        """The lines that the program prints with these arguments and this program of cca, with its records under a
+        folder, and its status."""
         how = {name: value for name, value in os.environ.items() if name != "CCA_PROGRAM"}
         run = subprocess.run(
             [sys.executable, ROOT / "checks" / "priced", *words, "--folder", self.folder / under],
@@ -135,7 +135,7 @@ class Counts(unittest.TestCase):
         self.assertIn("| tools/check | 2 | 2 |", said)
         self.assertIn("| cca | 0 | 0 |", said)
         self.assertEqual(f"| second proof | {2 * CHECKER.exists()} | {2 * CHECKER.exists()} |" in said, True)
-        # (it goes on, also after a kill that has cut a line)
+        # (it continues, also after a kill that has cut a line)
         with open(self.folder / "many.jsonl", "a") as file:
             file.write('{"number": 99')
         said, status = self.count("many", "3")
@@ -151,7 +151,7 @@ class Counts(unittest.TestCase):
         self.assertIn("| cca | 3 | 0 |", said)
 
     def outcomes(self, folder: str) -> list[dict[str, object]]:
-        """The records of `many` in a folder, without what they took."""
+        """The records of `many` in a folder, without their measurements."""
         found = [json.loads(line) for line in (self.folder / folder / "many.jsonl").read_text().splitlines()]
         for record in found:
             del record["seconds"]
@@ -195,7 +195,7 @@ class Counts(unittest.TestCase):
         self.assertIn("| cca | 3 | 3 |", said)
 
     def refused(self, *words: str, why: str) -> None:
-        """The program refuses these words, without a program of cca."""
+        """The program refuses these arguments, without a program of cca."""
         run = subprocess.run(
             [sys.executable, ROOT / "checks" / "priced", *words, "--folder", self.folder],
             env={name: value for name, value in os.environ.items() if name != "CCA_PROGRAM"},
@@ -219,7 +219,7 @@ class Counts(unittest.TestCase):
         self.assertIn("| Python's integers | yes | 2 | 2 | 0 | 0 | 0 |", said)
 
     def test_a_longer_search(self) -> None:
-        """Of a book for which more than ten rows were found; here of a record that says so."""
+        """A search for a book with more than ten found rows; here a record has such a count."""
         self.count("many", "1")
         kept = self.records("many")[0] | {"line": "cca: limit rows 11", "status": 7, "rows": 11, "judged": {}}
         (self.folder / "many.jsonl").write_text(json.dumps(kept) + "\n")

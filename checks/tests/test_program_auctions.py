@@ -1,4 +1,4 @@
-"""The program's `auction` beside the second program, on drawn auctions and on a list of more than 300 drafts."""
+"""The program's `auction` compared with the second program, on drawn auctions and on a list of more than 300 drafts."""
 import collections
 import itertools
 import os
@@ -12,8 +12,8 @@ from checks.cases.second_auctions import drawn, second_auction
 
 NUMBER, SEED = 300, 1
 
-# What is in the lines of all replies but `full`, in the books, and in the lines of all ends of an auction but that of
-# 300 rounds.
+# Text of the lines of all replies except `full`, of the books, and of the lines of all ends of an auction except the
+# end after 300 rounds.
 WORDS = [
     " ok\n",
     " round ",
@@ -60,7 +60,7 @@ def second(award: bytes, log: bytes) -> Ended:
 
 
 def other_version(award: bytes) -> bytes:
-    """The award with the final cap where it has none, and without it where it has one."""
+    """The award with the final cap if it has none, and without it if it has one."""
     first, rest = award.split(b"\n", 1)
     return {b"version = 1": b"version = 2\n", b"version = 2": b"version = 1\n"}[first] + rest
 
@@ -68,7 +68,7 @@ def other_version(award: bytes) -> bytes:
 @with_program
 class BesideTheSecondProgram(unittest.TestCase):
     def agreed(self, award: bytes, log: bytes) -> Ended:
-        """Runs both programs, and gives how both ended."""
+        """Runs both programs, and returns how both ended."""
         wanted = second(award, log)
         self.assertEqual(run("auction", "award", "log", "book", award=award, log=log), wanted)
         return wanted

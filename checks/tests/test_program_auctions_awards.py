@@ -119,7 +119,7 @@ LIMITS = [
 @with_program
 class FaultyAwards(unittest.TestCase):
     def stopped(self, award: str | bytes, line: str, status: int) -> None:
-        """Nothing but this line is printed of the award, and no book is written."""
+        """Only this line is printed for the award, and no book is written."""
         award = award if isinstance(award, bytes) else award.encode()
         with self.subTest(award=award):
             self.assertEqual(

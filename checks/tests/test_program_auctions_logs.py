@@ -16,7 +16,7 @@ bidder = [{name = "east", eligibility = 3}, {name = "west", eligibility = 2}]
 step = [{excess = 1, permille = 100}]
 """
 
-# That award with two caps and with north, which has no points and holds a lot of b.
+# That award with two caps and with north, which has no points and already owns a lot of b.
 NORTH = PAIR.replace("eligibility = 2}]", 'eligibility = 2}, {name = "north", eligibility = 0, holding = [0, 1]}]')
 NORTH += "cap = [{weight = [1, 1], limit = 9}, {weight = [0, 9], limit = 9}]\n"
 
@@ -29,7 +29,7 @@ step = [{excess = 1, permille = 1000}]
 """
 FINAL = DOUBLING.replace("version = 1", "version = 2")
 
-# Logs, and what is answered to their records. None of them is complete.
+# Logs, and the replies to their records. None of them is complete.
 SPELLINGS = [
     (b"", ""),
     (b"\n\r\n\n", ""),
@@ -197,7 +197,7 @@ def numbered(text: str) -> str:
 
 class Auctions(unittest.TestCase):
     def ends(self, award: str, log: str | bytes, printed: str, status: int, book: str | None = None) -> None:
-        """These lines are printed of an award and a log, and this book alone is written."""
+        """These lines are printed for an award and a log, and only this book is written."""
         files = {"award": award.encode(), "log": log if isinstance(log, bytes) else lines(log)}
         ended = run("auction", "award", "log", "book", **files)
         with self.subTest(log=files["log"][:1000]):
@@ -256,7 +256,7 @@ class Clock(Auctions):
             self.has_replies(award, f"bid,east,5, / bid,west,{excess}, / close,,,", f"ok / ok / round 2 {raised}")
 
     def test_greatest_price(self) -> None:
-        # the second close is refused by the same price: the first one left the prices as they were
+        # the second close is refused by the same price: the first one left the prices unchanged
         printed = (
             numbered("ok / ok / price-top 1 82463372084 / price-top 1 82463372084") + "cca: limit price 82463372084\n"
         )

@@ -1,4 +1,4 @@
-"""The auctions that the program makes from numbers, beside the generator of checks/ and by sums of their bytes."""
+"""The auctions that the program makes from numbers, compared with the generator of checks/ and by checksums."""
 import unittest
 from checks.cases.program import Ended, run, with_program
 

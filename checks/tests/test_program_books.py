@@ -1,5 +1,5 @@
-"""The program over books, weights and edits: where it stops at their texts, and what it prints of reviews and
-prices."""
+"""The program over books, weights and edits: the place where it stops in their texts, and what it prints for reviews
+and prices."""
 import unittest
 from checks.cases.program import run, with_program
 
@@ -60,7 +60,7 @@ FAULTY_LINES = [
     ("bid 1 0 28\nend\n\n", 57),
 ]
 
-# Two bidders, and the first line of their weights with that of the first bidder: 24 bytes.
+# Two bidders, and the first line of their weights with the first bidder's line: 24 bytes.
 EAST_AND_WEST = "book 1\nsupply 2\nreserve 0\nbidder east\nbid 1 5\nbidder west_2\nend\n"
 EAST_WEIGHS = "weights 1\nweight east 7\n"
 
@@ -103,7 +103,7 @@ FAULTY_EDITS = [
     ("edits 1\nend\nend\n", 12),
 ]
 
-# The third bidder would block the Vickrey prices of the first two, and half of what is missing is no whole number.
+# The third bidder would block the Vickrey prices of the first two, and half of what is missing isn't a whole number.
 HALVES = "book 1\nsupply 1 1\nreserve 10 5\nbidder a\nbid 1 0 25\nbidder b\nbid 0 1 20\nbidder c\nbid 1 1 36\nend\n"
 # As above, of three bidders for one lot each, and of three others for each two of the lots.
 PAIRS = (
@@ -114,7 +114,7 @@ PAIRS = (
 
 class Stopping(unittest.TestCase):
     def stops(self, words: str, files: dict[str, str], line: str, status: int) -> None:
-        """Asserts that these words stop with this line and status over these files, and leave no others."""
+        """Asserts that these arguments stop with this line and status over these files, and leave no others."""
         left = {name: text.encode() for name, text in files.items()}
         self.assertEqual(run(*words.split(" "), **files), (line + "\n", status, left))
 
@@ -186,8 +186,8 @@ class Weights(Stopping):
         self.assertEqual(ended[:2], ("net 0\nrevenue 0\n", 0))
 
     def test_least_and_greatest_weight(self) -> None:
-        """Both lots alone bring 21, the Vickrey prices are 0, and the two winners share the 21 by their weights of 1
-        and 20."""
+        """The losing bid for both lots is 21, the Vickrey prices are 0, and the two winners share the 21 by their
+        weights of 1 and 20."""
         book = (
             "book 1\nsupply 1 1\nreserve 0 0\nbidder east\nbid 1 0 30\nbidder west_2\nbid 0 1 30\nbidder both\n"
             "bid 1 1 21\nend\n"
@@ -277,7 +277,7 @@ class Prices(unittest.TestCase):
         """Net of reserve a and b bid 15 each and win with 30, and c bids 36 less 15, which is 21.
 
         Without a or without b the best is these 21, so both Vickrey prices are 21 - 30 + 15 = 6. c offers 9 more than
-        both, of which each pays the half: 10+1/2 net. With the reserves of 10 and 5 that is 20+1/2 and 15+1/2, and the
+        both, and each pays half of that: 10+1/2 net. With the reserves of 10 and 5 that is 20+1/2 and 15+1/2, and the
         Vickrey prices are 16 and 11.
         """
         turns = ["round 1 point 6 6 row 1 2 choice 0 0 1 excess 9", "round 2 point 10+1/2 10+1/2 end"]
@@ -297,12 +297,12 @@ class Prices(unittest.TestCase):
         self.prints(HALVES, ["--json", "--rounds"], rounds + winners)
 
     def test_fraction_of_the_revenue(self) -> None:
-        """Net of reserve a, b and c bid 10 each and win with 30, and each two of them have to pay the 7 of who bids for
-        both lots.
+        """Net of reserve a, b and c bid 10 each and win with 30, and each two of them have to pay the 7 of the bidder
+        for both lots.
 
         Without one of them the other two still win with 20, more than the 7 + 10 of the others, so the Vickrey prices
-        are 0 net. The three demands of 7 sum to twice what all pay: at least 10+1/2 net, and where it is no more, 3+1/2
-        from each. The reserve is 10, of the lot of a.
+        are 0 net. The three demands of 7 sum to twice what all pay: at least 10+1/2 net, and if it is exactly this,
+        3+1/2 from each. The reserve is 10, of the lot of a.
         """
         prices = (
             "winner a 1 0 0 bid 20 vickrey 10 pays 13+1/2\nwinner b 0 1 0 bid 10 vickrey 0 pays 3+1/2\n"

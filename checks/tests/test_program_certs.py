@@ -1,4 +1,4 @@
-"""The program over certificates of books: where it stops at their texts, and what it writes for a book."""
+"""The program over certificates of books: the place where it stops in their texts, and what it writes for a book."""
 import unittest
 from collections.abc import Iterable
 from checks.cases.program import run, with_program
@@ -36,9 +36,8 @@ FAULTY_ENDS = [
     ("rows 0\nlowered\nt 0 0\nend\nx", 69),
 ]
 
-# Two bidders, and the head of a certificate by which the first wins: 56 bytes, then the part without the first: 101
-# bytes, and then all up
-# to the count of one row: 116 bytes. Whether a choice names bids is no matter of form.
+# Two bidders, and the head of a certificate where the first wins: 56 bytes, then the part without the first: 101 bytes,
+# and then all up to the count of one row: 116 bytes. Whether a choice names bids isn't a matter of form.
 TWO = "book 1\nsupply 1\nreserve 0\nbidder a\nbidder b\nend\n"
 HEAD = "cert 1\nden 1\nvalue 0\nchoice 1 0\ntable\nt 0 0\nt 0 0\nt 0 0\n"
 PARTS = HEAD + "without 1\nchoice 0 0\ntable\nt 0 0\nt 0 0\nt 0 0\n"
@@ -70,8 +69,8 @@ FAULTY_LINES = [
 STATES_4096, STATES_4104, STATES_16384 = "3 3 3 3 3 3", "18 5 5 5", "3 3 3 3 7 7"
 FIRST, SECOND = "cert 1\nden 1\nvalue 0\n", "cert 2\nlimits 16 16384\nden 1\nvalue 0\n"
 
-# How many bidders there are and what is sold, and where the certificate stops: those of the right version at the
-# choice that is missing.
+# How many bidders there are and what is sold, and where the certificate stops: with the right version, at the choice
+# that is missing.
 VERSIONS = [
     (12, STATES_4096, FIRST, 21),
     (12, STATES_4096, SECOND, 0),
@@ -88,7 +87,7 @@ VERSIONS = [
 
 
 def book_of(supply: str, names: Iterable[str], bid: str | None = None) -> str:
-    """A book without reserves, in which each bidder has this bid or none."""
+    """A book without reserves where each bidder has this bid or none."""
     bidders = "".join(f"bidder {name}\n" + (f"bid {bid}\n" if bid else "") for name in names)
     return f"book 1\nsupply {supply}\nreserve {' '.join('0' for _ in supply.split())}\n{bidders}end\n"
 
@@ -140,7 +139,7 @@ class Checks(unittest.TestCase):
 @with_program
 class Prices(unittest.TestCase):
     def lines_of(self, words: str, starts: tuple[str, ...], **files: str) -> list[str]:
-        """The lines of the certificate that a command writes which begin with one of these words."""
+        """The lines of the certificate that a command writes, if their first word is in `starts`."""
         ended = run(*words.split(" "), **files)
         self.assertEqual(ended.status, 0, ended.printed)
         return [line for line in ended.files["cert"].decode().splitlines() if line.split(" ")[0] in starts]

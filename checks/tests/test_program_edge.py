@@ -1,4 +1,4 @@
-"""The program where its files, its output and the system's devices get in each other's way."""
+"""The program when its files, its output and the system's devices get in each other's way."""
 import os
 import resource
 import shutil
@@ -22,7 +22,7 @@ GIVEN = {
     "b.weights": "day-cramton.weights",
     "b.slots": "band.slots",
 }
-# The words of each command, its files first to be read and then, after a `>`, to be appended to.
+# The arguments of each command: first the files to read and then, after a `>`, the file to append to.
 COMMANDS = [
     "win b.book",
     "check b.book b.cert",
@@ -64,7 +64,7 @@ class Case(unittest.TestCase):
 
 
 def words_of(command: str) -> tuple[list[str], list[str]]:
-    """The words of a command, and the names of its files."""
+    """The arguments of a command, and the names of its files."""
     words = [word for word in command.split() if word != ">"]
     return words, [word for word in words[1:] if word != "7"]
 
@@ -126,7 +126,7 @@ class Output(Case):
 
     @unittest.skipUnless(os.path.exists("/dev/full"), "there is no /dev/full")
     def test_a_full_device(self) -> None:
-        """What can't be printed is reported by the status alone, and the files have their texts."""
+        """What can't be printed is reported only by the status, and the files have their texts."""
         for command in COMMANDS:
             words, files = words_of(command)
             whole = self.ended(*words)
@@ -199,7 +199,7 @@ class Devices(Case):
 @with_program
 class Words(Case):
     def test_130_000_words_take_little_work(self) -> None:
-        """If each word were looked for among the others, that would take some 30 seconds of the processor."""
+        """Searching for each argument among the others would take about 30 seconds of the processor."""
 
         def begin() -> None:
             resource.setrlimit(resource.RLIMIT_CPU, (20, 20))
@@ -224,7 +224,7 @@ class Commas(Case):
         self.assertEqual(self.ends(b"close,,,\n" + b"," * 8_388_590, preexec_fn=begin), (3, b"cca: refused log 2\n"))
 
     def test_the_first_faulty_record_is_told(self) -> None:
-        """Where fields end decides, and neither quotes nor line ends mislead."""
+        """The ends of fields decide; quotes and line ends don't mislead."""
         right = read("a.log").splitlines(keepends=True)[:3]
         for number, log in [
             (4, [*right, b"close,,,,\n"]),

@@ -1,7 +1,7 @@
 """The program where the system fails: each call of `award`, `price`, `auction` and `make`, once, forever, two at once,
 and killed at it.
 
-strace makes the calls fail. Where it isn't installed, or may not trace, these tests are left out, and a line says so.
+strace makes the calls fail. If it isn't installed, or may not trace, these tests are skipped, and a line says so.
 """
 import contextlib
 import os
@@ -52,13 +52,13 @@ ERRORS = {
     "mmap": ("ENOMEM",),
     "close": ("EIO",),
 }
-# Calls that cca makes again where a signal interrupts them, and those that the kit's library makes again, without an
-# end that anybody sees.
+# Calls that cca makes again if a signal interrupts them, and those that the kit's library makes again, without an end
+# that anybody sees.
 AGAIN = ("statx", "read", "write", "fcntl")
 AGAIN_FOR_EVER = ("openat", "flock", "fsync")
 OWN_FIRST = re.compile(r'statx\(AT_FDCWD, "/proc/self/fd/1"')
 CALL = re.compile(r"(?:\d+ +)?(\w+)\(")
-# What is printed with each status but 0, as far as the output takes it.
+# What is printed with each status except 0, as far as the output takes it.
 LINES = {4: rb"\Acca: read fault \w+\n\Z", 5: rb"\A", 6: rb"\A(cca: memory\n)?\Z"}
 
 
@@ -79,7 +79,7 @@ with_strace = unittest.skipUnless(TRACES, UNTRACED)
 
 
 class Fault(typing.NamedTuple):
-    """A call by its name and its number among those of its name, and what it answers: the words of strace's
+    """A call by its name and its number among the calls of its name, and what it returns: the form of strace's
     `inject`."""
 
     call: str
@@ -131,7 +131,7 @@ class Folder:
 
 
 class Case(unittest.TestCase):
-    """Runs of one command on a file that is missing, or that holds something already."""
+    """Runs of one command on a file that is missing, or that isn't empty."""
 
     runs = 0
     rng: random.Random
@@ -163,8 +163,7 @@ class Case(unittest.TestCase):
         return [(name, names[: k + 1].count(name)) for k, name in enumerate(names) if name in ERRORS and k >= begin]
 
     def ends_well(self, folder: Folder, ended: Ended, told: object) -> None:
-        """No file has anything but what it held and a prefix of its text, and what was printed is as told of the
-        status."""
+        """Each file has its old bytes and a prefix of its new text, and what was printed agrees with the status."""
         whole, type(self).runs = folder.whole, type(self).runs + 1
         self.assertIn(ended.status, (0, 4, 5, 6), told)
         for name, text in folder.given.items():
@@ -279,8 +278,7 @@ class Syncs(Case):
                 self.assertEqual(syncs - writes, 0 if held else len(appends), calls)
 
     def test_the_folder_that_is_synced_is_that_of_the_file(self) -> None:
-        """Of a name alone, of one in a folder below, of a whole path, and of a link, whose file lies in another
-        folder."""
+        """For a plain name, a name in a folder below, a whole path, and a link whose file is in another folder."""
         for name in ("cert", "below/cert", "{below}/cert", "link"):
             with tempfile.TemporaryDirectory() as folder, tempfile.NamedTemporaryFile("r") as trace:
                 here = os.path.realpath(folder)
@@ -338,10 +336,10 @@ class Syncs(Case):
 @with_program
 @with_strace
 class Short(Case):
-    """Calls that do a part of what they are asked for."""
+    """Calls that do only a part of their work."""
 
     def test_short_writes(self) -> None:
-        """Of a write that is reported as short the rest is written by the next one."""
+        """If a write is reported as short, the next one writes the rest."""
         for command, held in BOTH:
             with self.folder(command, held) as folder:
                 own = [number for name, number in self.calls(folder) if name == "write"]

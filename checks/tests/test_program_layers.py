@@ -1,4 +1,4 @@
-"""The program on overlayfs, where a file gets another inode once it is opened for writing.
+"""The program on overlayfs: a file gets another inode once it is opened for writing.
 
 Each run has a mount in a namespace of its own. If the machine allows no such mount, these tests are skipped, and a line
 says so.
@@ -18,7 +18,7 @@ from checks.cases.samples import sample
 SECONDS = 60
 CCA = os.path.abspath(PROGRAM or "")
 NAMESPACE = ["unshare", "--mount"] if os.geteuid() == 0 else ["unshare", "--mount", "--map-root-user"]
-# Runs the words in the merged folder, and copies what is there then.
+# Runs the command in the merged folder, and then copies its files.
 MOUNTED = """
 mount -t overlay overlay -o lowerdir=lower,upperdir=upper,workdir=work merged || exit 99
 cd merged && "$@"
@@ -51,7 +51,7 @@ class Ended(typing.NamedTuple):
 
 
 def run(*words: str) -> Ended:
-    """Runs these words over a lower layer in which each file has a second name, `NAME.link`."""
+    """Runs this command over a lower layer where each file has a second name, `NAME.link`."""
     with tempfile.TemporaryDirectory() as folder:
         for name in ("lower", "upper", "work", "merged", "left"):
             os.mkdir(os.path.join(folder, name))

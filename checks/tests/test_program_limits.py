@@ -20,7 +20,7 @@ ROOT = pathlib.Path(__file__).resolve().parents[2]
 SOURCE = (ROOT / "crates" / "limits" / "src" / "lib.rt").read_text(encoding="utf-8")
 CONSTANTS = dict(re.findall(r"^pub const (\w+): \w+ = (.+);$", SOURCE, re.M))
 CHECKER = ROOT / "second_proof" / "built" / "checker"
-# The court's tool for a command, and the order in which it takes the files.
+# The court's tool for a command, and its order of the files.
 COURT = {
     "check": ("check", (0, 1)),
     "weigh-check": ("check", (0, 2, 1)),
@@ -36,7 +36,7 @@ def value_of(name: str) -> int:
 
 
 def ended(command: list[str], words: list[str]) -> tuple[str, int]:
-    """What a program prints of these words, and its status."""
+    """What a program prints for these arguments, and its status."""
     done = subprocess.run([*command, *words], stdin=subprocess.DEVNULL, capture_output=True, text=True, check=False)
     return done.stdout, done.returncode
 
@@ -67,7 +67,7 @@ class Limits(unittest.TestCase):
                 self.assertEqual((left, it.status and made.files), (it.files, it.status and it.files))
 
     def with_files(self, it: Run) -> list[str]:
-        """The words of a run whose files are in a folder of this test."""
+        """The arguments of a run whose files are in a folder of this test."""
         folder = tempfile.TemporaryDirectory()
         self.addCleanup(folder.cleanup)
         command, *names = it.words.split(" ")
@@ -95,7 +95,7 @@ class Limits(unittest.TestCase):
 
     @unittest.skipUnless(CHECKER.exists(), "second_proof/build has built no checker")
     def test_the_second_proof(self) -> None:
-        """The extracted checker says of an award no field, and no record of a log that isn't of its form."""
+        """For an award or a log that isn't of its form, the extracted checker reports no field and no record."""
         for name, it in runs():
             if it.words.split(" ")[0] in COURT:
                 with self.subTest(name):

@@ -1,8 +1,7 @@
-"""The program beside the second one on a kept corpus of mutants: of each kind of file the same ones, made from their
-numbers.
+"""The program compared with the second one on a fixed corpus of mutants of each kind of file, made from their numbers.
 
 Each mutant is a sample with a few changes, as a fuzzer makes them: flipped bits, numbers at a limit, lines and blocks
-that are moved, cut or said twice. Statuses and lines have to be those of the second program.
+that are moved, cut or repeated. Statuses and lines have to be the same as the second program's.
 """
 import hashlib
 import os
@@ -32,7 +31,7 @@ NUMBERS = [
     b"+5",
 ]
 BYTES = [b"\0", b'"', b",", b" ", b"\r", b"\n", b"\xff", b"\xef\xbb\xbf", b"#", b"'''", b"\\"]
-# Of each kind of file: the words of `cca` and of the tool, where a mutant takes the place of the file of its name.
+# For each kind of file: the arguments of `cca` and of the tool. A mutant takes the place of the file of its name.
 KINDS = {
     "award": (("audit", "award", "log", "cert"), ("audit", "award", "log", "cert")),
     "log": (("audit", "award", "log", "cert"), ("audit", "award", "log", "cert")),
@@ -44,7 +43,7 @@ KINDS = {
     "edits": (("review", "book", "edits"), ("explain", "review", "book", "edits")),
 }
 EACH = 12
-# The sums of all mutants of a kind, so that the corpus stays what it is.
+# The checksums of all mutants of a kind, so that the corpus stays unchanged.
 SUMS = {
     "award": "427cb9ee8962117e",
     "log": "361a91356576a905",
@@ -156,7 +155,7 @@ class Mutants(unittest.TestCase):
                     text = mutant(kind, number, self.texts[kind])
                     ours, theirs = self.told(kind, text)
                     if kind == "edits":
-                        # `explain` says the reviews in words; the line of a fault is the same.
+                        # `explain` prints the reviews as sentences; the line of a fault is the same.
                         ours, theirs = (
                             (status, out if status else b"")
                             for status, out in (ours, (theirs[0], theirs[1].partition(b"\n")[0] + b"\n"))

@@ -1,4 +1,4 @@
-"""The program on right and on faulty books: `win`, `price`, `weigh` and `review`, and the words of each command."""
+"""The program on right and on faulty books: `win`, `price`, `weigh` and `review`, and the arguments of each command."""
 import unittest
 from checks.cases.program import run, with_program
 from checks.cases.samples import book_of, lines, sample
@@ -26,7 +26,7 @@ EQUALS = book_of((1,), [[((1,), 9)]] * 4, ["n1", "n2", "n3", "n4"])
 
 class Case(unittest.TestCase):
     def ends(self, words: str, given: dict[str, bytes], told: str, status: int = 0, **made: bytes) -> None:
-        """A run over the given files alone prints these lines with this status, and changes only what it made or
+        """A run over only the given files prints these lines with this status, and changes only what it made or
         appended to."""
         ended = run(*words.split(), **given)
         self.assertEqual((ended.printed, ended.status), (lines(told).decode(), status))
@@ -142,7 +142,7 @@ class Win(Case):
                 self.ends("win BOOK", {"BOOK": book}, winners)
 
     def test_numbers_of_the_choice(self) -> None:
-        """`review` says the numbers of the winning choice before any edit."""
+        """`review` prints the numbers of the winning choice before any edit."""
         for name, book, numbers, winners in WINNERS:
             with self.subTest(name):
                 before = " ".join(["0", winners.split(" / ")[-1], "choice", *numbers.split()])

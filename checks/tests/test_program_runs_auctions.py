@@ -40,7 +40,7 @@ class Auction(Case):
                 self.ends("auction AWARD LOG BOOK", {"AWARD": AWARD, "LOG": log}, replies, BOOK=lines(book))
 
     def test_no_book(self) -> None:
-        """After the replies comes why there is no book."""
+        """After the replies comes the reason for the missing book."""
         greatest = AWARD.replace(b"reserve = 10\n", b"reserve = 68719476736\n")
         for award, told, status in [
             (AWARD, "1 ok / 2 ok / 3 round 2 12 / cca: refused log 4", 3),
@@ -59,7 +59,7 @@ class Auction(Case):
                 self.ends("auction AWARD LOG BOOK", {"AWARD": award, "LOG": log}, line, 3)
 
     def test_limit_of_rounds(self) -> None:
-        """In each of 300 rounds too much is asked for, and the price rises by one tick."""
+        """In each of 300 rounds the demand is too high, and the price rises by one tick."""
         given = {"AWARD": AWARD.replace(b"permille = 200", b"permille = 1"), "LOG": lines(FIRST) * 300}
         ended = run("auction", "AWARD", "LOG", "BOOK", **given)
         last = ["897 round 300 309", "898 ok", "899 ok", "900 full 300", "cca: limit rounds 301"]

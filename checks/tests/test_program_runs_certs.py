@@ -21,7 +21,7 @@ from test_program_runs import (
     Case,
 )
 
-# Three winners that share their payment alike, over 3.
+# Three winners that share their payment equally, over 3.
 LOCALS_CERT = certificate_of(
     (1, 1, 1),
     LOCALS_BIDS,
@@ -49,7 +49,7 @@ class Books(Case):
         self.ends("check BOOK CERT", {"BOOK": book, "CERT": cert}, told, status)
 
     def test_yes(self) -> None:
-        """In the last two one row of a single winner has a negative second multiplier, where its first is positive."""
+        """In the last two, one row of a single winner has a negative second multiplier and a positive first one."""
         last = ((1, 2), 1, 0, (0, 0, 1, 1, 0)), ((2, 3), 0, 8, (1, 0, 0, 0, 1)), ((3,), 1, -8, (1, 1, 0, 0, 0))
         first = ((1,), 1, -8, (0, 1, 1, 0, 0)), ((2, 3), 1, 0, (1, 0, 0, 0, 1)), ((1, 2), 0, 8, (0, 0, 1, 1, 0))
         for name, book, cert, prices in [
@@ -98,7 +98,7 @@ class Books(Case):
         self.judges(DAY_CRAMTON, re.sub(rb"pay .*lowered", rows, CERT, flags=re.DOTALL), "no C9 24", 1)
 
     def test_fronts(self) -> None:
-        """A certificate that ends early is refused at the line that holds the first byte that is missing."""
+        """A certificate that ends early is refused at the line of the first byte that is missing."""
         self.assertEqual(len(CERT), 476)
         for count in range(len(CERT)):
             with self.subTest(count):

@@ -1,10 +1,10 @@
-"""The program over slots and certificates of placements: where it stops at their texts, what wins and is paid, and what
-fails first."""
+"""The program over slots and certificates of placements: the place where it stops in their texts, the winners and
+prices, and the first test that fails."""
 import unittest
 from checks.cases.program import run, with_program
 from checks.cases.samples import sample
 
-# The bids of x and y fit together, and that of z with neither.
+# The bids of x and y fit together; z's bid fits with neither.
 THREE = sample("band.slots").decode()
 # Several choices are worth as much.
 TIES = (
@@ -12,13 +12,13 @@ TIES = (
     "place 1 6\nplace 4 6\n"
     "end\n"
 )
-# A whole band, in which all bidders can win.
+# A whole band where all bidders can win.
 FOUR = (
     "slots 1\nband 7\nbidder p 2\nplace 2 9\nplace 4 9\nplace 6 4\nbidder q 1\nplace 1 5\nplace 3 7\nbidder r 3\n"
     "place 1 8\nplace 2 8\n"
     "place 5 8\nbidder s 1\nplace 4 6\nplace 7 2\nend\n"
 )
-# A bid of the greatest amount for a start that no order gives.
+# A bid of the greatest amount for a start that is impossible in every order.
 LATE = (
     "slots 1\nband 9\nbidder m 2\nplace 3 4\nplace 8 4398046511104\nbidder n 1\nplace 2 1\nbidder o 1\nplace 1 1\nend\n"
 )
@@ -88,8 +88,7 @@ PLACED = "placed x 1 2\nplaced z 3 1\nplaced y 4 1\n"
 PRICES = PLACED + "winner x 1 bid 10 vickrey 4 pays 7\nwinner y 4 bid 8 vickrey 2 pays 5\nvalue 18\nrevenue 12\n"
 
 # What is changed in this certificate, at its first place, and the test and place that fail first. These were found by
-# testing the
-# certificates with another program, from the tests' definitions alone.
+# testing the certificates with another program, made only from the tests' definitions.
 FAILING = [
     ("den 1", "den 0", "P1 1"),
     ("value 18", "value -1", "P1 2"),
@@ -116,7 +115,7 @@ FAILING = [
     ("t 12 5 12 0 5 5 0 0", "t 13 5 12 0 5 5 0 0", "P9 8"),
 ]
 
-# Likewise the byte where the first faulty line begins.
+# What is changed in this certificate, and the byte where the first faulty line begins.
 FAULTY = [
     ("pcert 1\n", "cert 1\n", 0),
     ("pcert 1\n", "pcert 2\n", 0),
@@ -186,7 +185,7 @@ class Slots(unittest.TestCase):
                 )
 
     def test_others_win_without_a_bidder(self) -> None:
-        """The others come to 12 each time, so the Vickrey prices are 12 - 18 + 10, 12 - 18 + 8 and 12 - 15 + 3."""
+        """The others are worth 12 each time, so the Vickrey prices are 12 - 18 + 10, 12 - 18 + 8 and 12 - 15 + 3."""
         rows = [
             (THREE, 1, "choice 0 0 1", "t 12 8 12 0 8 8 0 0", "winner x 1 bid 10 vickrey 4 "),
             (THREE, 2, "choice 0 0 1", "t 12 0 12 0 0 0 0 0", "winner y 4 bid 8 vickrey 2 "),

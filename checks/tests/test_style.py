@@ -59,7 +59,7 @@ def path_lines(text: str) -> list[int]:
 
 
 class Paths(unittest.TestCase):
-    """Where modules are found is said by the scripts that start a tool, on one line each."""
+    """Only the scripts that start a tool set the path of modules, on one line each."""
 
     def test_no_module_has_to_do_with_it(self) -> None:
         for name in PYTHON:

@@ -1,4 +1,4 @@
-"""Cases of `auction`: each reply; the first reason that holds is reported."""
+"""Cases of `auction`: each reply, which is the first reason that applies."""
 
 from __future__ import annotations
 

@@ -1,4 +1,4 @@
-"""Cases of `audit`: logs whose book depends on a rule, so that who gets the rule wrong says another verdict."""
+"""Cases of `audit`: logs whose book depends on a rule, so that a wrong rule leads to another verdict."""
 
 from __future__ import annotations
 
@@ -176,8 +176,7 @@ def full_list() -> tuple[str, list[tuple[tuple[int, int], int]]]:
 
 
 def full_lists(v: Cases) -> None:
-    """A list of 300 drafts, in which another package would win by the order of ties, and one of them at another
-    amount."""
+    """A list of 300 drafts where another package would win by the order of ties, and one of them at another amount."""
     text, of_east = full_list()
     bids: Bids = [of_east, []]
     cert = book_certificate((19, 19), (10, 10), bids)

@@ -26,7 +26,7 @@ TOML = [
 
 
 def toml_spellings(v: Cases) -> None:
-    """Spellings of the small sale, and texts that are no TOML."""
+    """Spellings of the small sale, and texts that aren't TOML."""
     audits(v, "toml-line-ends", "line ends CR LF", SALE.replace(b"\n", b"\r\n"), ROW, SALE_CERT, "yes")
     for number, (was, put, why) in enumerate(TOML, 1):
         text = edited(SALE, was, put)
@@ -54,7 +54,7 @@ def toml_spellings(v: Cases) -> None:
 
 
 def toml_depths(v: Cases) -> None:
-    """Deep and long values of keys that no award has, and bytes that are no text."""
+    """Deep and long values of keys that no award has, and bytes that aren't text."""
     audits(
         v,
         "toml-greatest-number",

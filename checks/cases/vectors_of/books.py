@@ -143,7 +143,7 @@ def limits_of_bidders(v: Cases) -> None:
 
 
 def limits_of_bids_and_bytes(v: Cases) -> None:
-    """As many bids and bytes as the limits, and one more."""
+    """The greatest numbers of bids and bytes, and one more."""
     packages = ((a, b, c) for a in range(20) for b in range(11) for c in range(9) if a + b + c)
     bids = [f"bid {a} {b} {c} 1 / " for a, b, c in itertools.islice(packages, 601)]
     for count, answer in (600, "cca: refused cert 0"), (601, "cca: limit bids 601"):

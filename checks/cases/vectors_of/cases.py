@@ -39,14 +39,14 @@ class Cases(Protocol):
 def book_certificate(
     supply: Sequence[int], reserves: Sequence[int], bids: Bids, weights: Sequence[int] | None = None
 ) -> bytes:
-    """The certificate of a small book, in which few bidders win."""
+    """The certificate of a small book with few winners."""
     made = small_certs.book_certificate(supply, reserves, bids, weights)
     assert made is not None
     return made
 
 
 def place_certificate(bidders: Bidders) -> bytes:
-    """The certificate of slots, in which few bidders win."""
+    """The certificate of slots with few winners."""
     made = small_certs.place_certificate(bidders)
     assert made is not None
     return made

@@ -1,4 +1,5 @@
-"""Cases of certificates of which one test fails at one place, and all else holds: who leaves this test out says yes."""
+"""Cases of certificates that fail one test at one place and pass all others: a checker without this test accepts
+them."""
 
 from __future__ import annotations
 
@@ -225,7 +226,7 @@ def choices_that_fit(v: Cases) -> None:
 
 
 def signs(v: Cases) -> None:
-    """C7 and C8: the signs and the sums of multipliers."""
+    """C7 and C8: the signs of multipliers, and their sums."""
     pair, none = PAIR, NONE
 
     v.case(

@@ -7,7 +7,7 @@ from checks.cases.vectors_of.cases import HEADS, WIDE, Cases, auction_of, edited
 from checks.cases.vectors_of.day_cramton import CERT, both
 
 
-# Of the certificate of Day and Cramton: what is changed, at which byte the faulty line begins, and why.
+# For the certificate of Day and Cramton: what is changed, the byte where the faulty line begins, and why.
 FORMS = [
     ("cert 1", "cert 2", 0, "the other version"),
     ("cert 1", "cert 1 ", 0, "a space at the end of a line"),

@@ -1,4 +1,4 @@
-"""Cases of certificates of which a test fails."""
+"""Cases of certificates that fail a test."""
 
 from __future__ import annotations
 
@@ -9,7 +9,7 @@ from checks.cases.vectors_of.cases import WIDE, Cases, auction_of, book_certific
 from checks.cases.vectors_of.day_cramton import BOOK, CERT, DAY_AWARD, DAY_LOG, both
 
 
-# Of the certificate of Day and Cramton: what is changed, what that gets, and why.
+# For the certificate of Day and Cramton: what is changed, the answer, and why.
 TESTS = [
     ("den 1", "den 0", "no C1 1", "the denominator is 0"),
     ("den 1", "den -1", "no C1 1", "the denominator is below 0"),

@@ -1,4 +1,4 @@
-"""Cases of certificates that pass, and of some that are refused beside them."""
+"""Cases of certificates that pass, and of similar ones that are refused."""
 
 from __future__ import annotations
 
@@ -11,7 +11,7 @@ LOCALS = [[((1, 0, 0), 10)], [((0, 1, 0), 10)], [((0, 0, 1), 10)]]
 
 
 def same_prices(v: Cases) -> None:
-    """Certificates of the same prices that are written otherwise."""
+    """Certificates of the same prices in other forms."""
     v.case("day-cramton", "the example of docs/CERTIFICATES.md", "check", (BOOK, CERT), "yes")
     scaled = certificate_of((1, 1), DAY_BIDS, DAY, DAY_WITHOUT, 3, (51, 45, 0, 0, 0), [((1, 2), 3, 9, (0, 0, 1, 0, 0))])
     v.case("other-denominator", "the same prices over a denominator of 3", "check", (BOOK, scaled), "yes")
@@ -40,7 +40,7 @@ def same_prices(v: Cases) -> None:
 
 
 def few_winners(v: Cases) -> None:
-    """Books in which nobody wins, or one bidder."""
+    """Books where nobody wins, or one bidder."""
     nobody = lines("cert 1 / den 1 / value 0 / choice / table / t 0 0 / pay / rows 0 / lowered / t 0 0 / end")
     v.case("nobody", "a book without a bidder", "check", (lines("book 1 / supply 1 / reserve 0 / end"), nobody), "yes")
     v.case(
@@ -75,7 +75,7 @@ def few_winners(v: Cases) -> None:
 
 
 def thirds(v: Cases) -> None:
-    """Payments that are no whole numbers."""
+    """Payments that aren't whole numbers."""
     thirds = certificate_of(
         (1, 1, 1),
         [*LOCALS, [((1, 1, 1), 11)]],

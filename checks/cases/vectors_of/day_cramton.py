@@ -12,7 +12,7 @@ BOOK, CERT, WEIGHTS = (sample(f"day-cramton.{kind}") for kind in ("book", "cert"
 DAY, DAY_BIDS = (1, 1, 0, 0, 0), [[((1, 0), 28)], [((0, 1), 20)], [((1, 1), 32)], [((1, 0), 14)], [((0, 1), 12)]]
 DAY_WITHOUT = {1: (0, 1, 0, 1, 0), 2: (1, 0, 0, 0, 1)}
 
-# An auction whose book is that of Day and Cramton: all ask for their packages at 0, for nothing at 32, and then submit.
+# An auction with the book of Day and Cramton: all ask for their packages at 0, for nothing at 32, and then submit.
 DAY_AWARD = (
     "version = 1\ntick = 32\nstep = [{excess = 1, permille = 1}]\n"
     + "".join(f'[[category]]\nname = "{name}"\nsupply = 1\npoints = 0\nreserve = 0\n' for name in "ac")
@@ -38,6 +38,6 @@ def day(
     pay: Sequence[int] = (17, 15, 0, 0, 0),
     rows: Sequence[Row] = (((1, 2), 1, 3, (0, 0, 1, 0, 0)),),
 ) -> bytes:
-    """The certificate of Day and Cramton with some parts otherwise, and tables that are exact for them."""
+    """The certificate of Day and Cramton with some other parts, and tables that are exact for them."""
     other = DAY_WITHOUT if without is None else without
     return certificate_of((1, 1), DAY_BIDS, DAY if choice is None else choice, other, den, pay, rows)

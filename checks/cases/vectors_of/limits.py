@@ -64,7 +64,7 @@ def amounts_at_their_limits(v: Cases) -> None:
 
 
 def orders_of_limits(v: Cases) -> None:
-    """Awards above several limits, of which the first is reported."""
+    """Awards above several limits: the first one is reported."""
     for supply, bidders, answer in (
         ((9,) * 7, 17, "categories 7"),
         ((9, 9, 9, 9, 5), 17, "lots 41"),

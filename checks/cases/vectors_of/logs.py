@@ -48,7 +48,7 @@ LOGS = [
 
 
 def log_forms(v: Cases) -> None:
-    """Each of `LOGS`, and records that are no fault of form."""
+    """Each of `LOGS`, and records without a fault of form."""
     for number, text in enumerate(LOGS, 1):
         audits(
             v,
@@ -81,7 +81,7 @@ def log_forms(v: Cases) -> None:
 
 
 def log_ends(v: Cases) -> None:
-    """Logs that aren't complete, and the order in which files are read."""
+    """Logs that aren't complete, and the order of reading files."""
     audits(v, "log-empty", "an empty log isn't complete", SALE, b"", b"", "cca: refused log 1")
     audits(v, "log-of-blank-lines", "blank lines are no records", SALE, b"\n\r\n\r\r\n", b"", "cca: refused log 1")
     audits(
@@ -102,7 +102,7 @@ def log_ends(v: Cases) -> None:
 
 
 def log_limits(v: Cases) -> None:
-    """As many records and bytes as the limits, and one more."""
+    """The greatest numbers of records and bytes, and one more."""
     v.case(
         "log-100001-records",
         "more records than the limit",
@@ -130,7 +130,7 @@ def log_limits(v: Cases) -> None:
 
 
 def csv_texts(v: Cases) -> None:
-    """Spellings of one log, of which the book is the same."""
+    """Spellings of one log, which have the same book."""
     text = lines(ROW)
     rows = [
         ("crlf", "line ends CR LF", text.replace(b"\n", b"\r\n")),

@@ -1,4 +1,4 @@
-"""Collects the cases of vectors/ in their order, on which the names of files that several cases have depend."""
+"""Collects the cases of vectors/ in their order. The names of files that several cases share depend on this order."""
 
 from __future__ import annotations
 

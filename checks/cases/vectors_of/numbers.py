@@ -1,4 +1,4 @@
-"""Cases of numbers about the ends of 128 bits, where a checker with numbers of some size may go wrong."""
+"""Cases of numbers near the limits of 128 bits. A checker with numbers of a fixed size may go wrong there."""
 
 from __future__ import annotations
 

@@ -1,4 +1,4 @@
-"""Cases of the placements of a band: what passes, and of which a test fails."""
+"""Cases of the placements of a band: those that pass, and those that fail a test."""
 
 from __future__ import annotations
 

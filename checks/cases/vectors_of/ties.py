@@ -1,4 +1,4 @@
-"""Cases of choices of the same value, of which the first wins."""
+"""Cases of choices of the same value: the first one wins."""
 
 from __future__ import annotations
 

@@ -83,7 +83,7 @@ def divisions(v: Cases) -> None:
 
 
 def weight_forms(v: Cases) -> None:
-    """Each of `WEIGHT_FORMS`, and the order in which files are read."""
+    """Each of `WEIGHT_FORMS`, and the order of reading files."""
     for number, (was, put, place, why) in enumerate(WEIGHT_FORMS, 1):
         add(v, f"form-{number}", why, f"cca: refused weights {place}", weights=edited(WEIGHTS, was, put))
     add(

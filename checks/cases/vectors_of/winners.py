@@ -31,13 +31,13 @@ def certificate(
     without: Collection[int],
     den: int = 1,
 ) -> bytes:
-    """A certificate in which all but the losers win. `without` is, for each winner, the number of the loser's bid that
+    """A certificate where all except the losers win. `without` is, for each winner, the number of the loser's bid that
     takes its place; a row has its members, its multipliers and the losers that its choice uses."""
     supply, bids = sale(amounts, losers)
     size = len(amounts)
 
     def choice(members: Collection[int], used: Collection[int]) -> tuple[int, ...]:
-        """All but the members win, and these losers."""
+        """All except the members win, and these losers."""
         return tuple(int(j not in members) for j in range(1, size + 1)) + tuple(
             int(n in used) for n in range(len(losers))
         )
@@ -50,14 +50,15 @@ def certificate(
 
 
 def shared(losing: int, pay: Sequence[int], second: int = 1) -> bytes:
-    """Eight win, and a ninth who bids for all of eight lots makes them pay `losing` together. Without one of them the
-    others still win, so each Vickrey price is 0."""
+    """Eight win, and a ninth bidder that bids for all of eight lots makes them pay `losing` together. Without one of
+    them the others still win, so each Vickrey price is 0."""
     every = tuple(range(1, 9))
     return certificate(EIGHT, [(8, losing)], pay, [(every, 1, second, (0,))], ())
 
 
 def own_rows(count: int, losers: Losers = FIRST_LOSERS, left_out: Collection[int] = ()) -> bytes:
-    """As many win as rows are needed. Each pays the first loser's bid of 50, since without it that loser wins."""
+    """The number of winners is the number of needed rows. Each pays the first loser's bid of 50, since without it that
+    loser wins."""
     rows = [((j,), 1, 0, (0,)) for j in range(1, count + 1) if j not in left_out]
     return certificate([100] * count, losers, [50] * count, rows, (0,))
 
@@ -98,7 +99,7 @@ def add_winners(v: Cases) -> None:
 
 
 def weighted(v: Cases) -> None:
-    """By weights of 1 to 8 the winners pay 2 to 16 of the 72 that the ninth asks for."""
+    """With weights of 1 to 8 the winners pay 2 to 16 of the 72 that the ninth bids."""
     book = book_of(*sale(EIGHT, [(8, 72)]))
     weights = lines(" / ".join(["weights 1", *(f"weight b{j} {j}" for j in range(1, 9)), "weight b9 1", "end"]))
     files = book, weights, shared(72, range(2, 17, 2), 2)

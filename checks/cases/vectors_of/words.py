@@ -1,4 +1,4 @@
-"""Cases of words that a command doesn't take, and of files that aren't there."""
+"""Cases of arguments that a command doesn't take, and of files that aren't there."""
 
 from __future__ import annotations
 
@@ -10,7 +10,7 @@ from checks.cases.vectors_of.sales import ROW, SALE
 
 
 def words(v: Cases) -> None:
-    """Too few words, too many, and missing files."""
+    """Too few arguments, too many, and missing files."""
     v.case("words-none", "no file", "check", (), "cca: words")
     v.case("words-one", "a file too few", "check", (BOOK,), "cca: words")
     v.case("words-three", "a file too many", "check", (BOOK, CERT, "more"), "cca: words")
