@@ -14,7 +14,7 @@ Wanted: TypeAlias = tuple[dict[int, Fraction | int], int | None, Fraction | int]
 
 
 def fraction(word: str) -> Fraction:
-    """The number of a word such as 3+2/3."""
+    """The number of a text such as 3+2/3."""
     whole, _, rest = word.partition("+")
     return int(whole) + Fraction(rest or 0)
 

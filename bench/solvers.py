@@ -12,7 +12,8 @@ from typing import TypeAlias
 from bench.pricings import Wanted
 from checks.cases.limit_books import OUT, RESERVE, SUPPLY, Bid, Package, timed
 
-# Of each bidder its bids; surpluses by bidders; and a variable with its worth, its bidder and its package.
+# A book has the bids of each bidder. Surpluses are by bidder. A term is a variable with its worth, its bidder and its
+# package.
 Book: TypeAlias = Sequence[Sequence[Bid]]
 Surplus: TypeAlias = Mapping[int, Fraction | int]
 Term: TypeAlias = tuple[str, float, int, Package]
@@ -20,8 +21,8 @@ SOLVERS = tuple(solver for solver in ("cbc", "glpsol") if shutil.which(solver))
 
 
 def terms_of(book: Book, surplus: Surplus, skip: int | None) -> tuple[list[Term], float]:
-    """What each bid counts where its bidder's surplus is taken off, without one bidder, and the idle worths, which are
-    a constant."""
+    """The worth of each bid less its bidder's surplus, without one bidder, and the idle worths, which are a
+    constant."""
     terms: list[Term] = []
     idle = 0.0
     for j, bids in enumerate(book):
@@ -83,6 +84,7 @@ def beside(solver: str, book: Book, wanted: Iterable[Wanted], seconds: int) -> t
 
 
 def told(solver: str, ours: float, spent: float, whole: bool, same: bool) -> str:
-    """A line on a solver beside cca: how many times as long it took, at least this many where it was cut off."""
+    """A line that compares a solver with cca: how many times as long it took, or at least this many if it was cut
+    off."""
     least = "" if whole else "at least "
     return f"  {solver:<7}{least}{spent:,.0f} ms, {least}{spent / ours:,.0f} times as long; same optima: {same}"

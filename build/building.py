@@ -27,7 +27,7 @@ signals: list[int] = []
 
 
 class NotBuilt(Exception):
-    """Why there is no new program, and the status to end with."""
+    """The reason for the missing new program, and the status to end with."""
 
     def __init__(self, why: str, status: int = FAILED) -> None:
         super().__init__(why)
@@ -88,7 +88,7 @@ def sources(name: str, root: pathlib.Path = ROOT) -> Iterator[str]:
 
 
 def sum_of(name: str, libraries: Sequence[str], root: pathlib.Path = ROOT) -> str:
-    """The checksum of what a crate is made of beside its libraries."""
+    """The checksum of a crate's sources and of its libraries' names."""
     found = hashlib.sha256(repr(libraries).encode())
     for path in sources(name, root):
         with open(path, "rb", buffering=0) as file:
@@ -103,9 +103,9 @@ def sums_of(uses: Uses, root: pathlib.Path = ROOT) -> str:
 
 
 def kit_of(tool: str) -> str:
-    """The line by which the kit of this `rt` names itself and its logic.
+    """The line that names the kit of this `rt` and its logic.
 
-    The kit has it in the file KIT-ID, so that a call needn't start `rt version`.
+    The kit has it in the file KIT-ID, so that a call need not start `rt version`.
     """
     with contextlib.suppress(OSError, UnicodeDecodeError):
         return pathlib.Path(tool).resolve().parents[1].joinpath("KIT-ID").read_text(encoding="utf-8").strip()
@@ -187,7 +187,7 @@ def synced(path: pathlib.Path) -> None:
 
 
 def reserve_error_stream() -> None:
-    """Takes the place of standard error if that is closed, so that no file that is opened later gets what is said."""
+    """Takes the place of standard error if that is closed, so that no file that is opened later gets the messages."""
     try:
         os.fstat(2)
     except OSError:
@@ -213,7 +213,7 @@ def say(text: str, end: str = "\n") -> None:
 
 
 def note_signals() -> None:
-    """From here on a signal that would end this call is noted in `signals`, unless the caller has it ignored."""
+    """From here on a signal that would end this call is noted in `signals`, unless the caller ignores it."""
     for number in NOTED:
         if signal.getsignal(number) != signal.SIG_IGN:
             signal.signal(number, lambda number, _: signals.append(number))
@@ -222,21 +222,21 @@ def note_signals() -> None:
 
 
 def stop_noting_signals() -> None:
-    """From here on a signal ends this call at once, unless the caller has it ignored."""
+    """From here on a signal ends this call at once, unless the caller ignores it."""
     for number in NOTED:
         if signal.getsignal(number) != signal.SIG_IGN:
             signal.signal(number, signal.SIG_DFL)
 
 
 def has_ended(process: subprocess.Popen[bytes], seconds: float) -> bool:
-    """Waits so long, and says whether the process has ended."""
+    """Waits this long, and returns whether the process has ended."""
     with contextlib.suppress(subprocess.TimeoutExpired):
         process.wait(seconds)
     return process.returncode is not None
 
 
 def end(process: subprocess.Popen[bytes]) -> None:
-    """Ends the process and its group, if it goes on."""
+    """Ends the process and its group, if it still runs."""
     for number in (signal.SIGTERM, signal.SIGKILL) if process.poll() is None else ():
         with contextlib.suppress(ProcessLookupError):
             os.killpg(process.pid, number)

@@ -16,7 +16,7 @@ from cca_tools.page.svg import Drawing, width_of
 __all__ = ["Drawing", "Mark", "WIDTH", "draw_key", "keep"]
 # How many units a picture is wide at most. A phone shows it as wide as its screen, and its letters can still be read.
 WIDTH = 374
-# A mark of a key: its colour, its edge or None for a line, whether it is hatched, and its words.
+# A mark of a key: its colour, its edge or None for a line, whether it is hatched, and its label.
 Mark: TypeAlias = tuple[str, str | None, bool, str]
 
 
@@ -28,7 +28,7 @@ def keep(folder: pathlib.Path, drawing: Drawing, height: int, title: str, about:
 
 
 def draw_key(drawing: Drawing, x: float, y: float, marks: Sequence[Mark]) -> None:
-    """A row of marks with their words."""
+    """A row of marks with their labels."""
     for fill, edge, is_hatched, words in marks:
         if edge:
             drawing.rect(x, y - 10, 14, 12, fill, edge)

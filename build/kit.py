@@ -11,7 +11,7 @@ from types import ModuleType
 
 
 def path() -> str:
-    """Where the command is; the run ends if it is nowhere."""
+    """The path of the command; ends the run if there is none."""
     return os.path.realpath(shutil.which("rt") or sys.exit("rt, the tool of the Rattle kit, is not on the PATH"))
 
 

@@ -36,12 +36,12 @@ def rows(lines: Sequence[str]) -> Iterator[list[str]]:
 
 
 def hanging(tag: str, text: str, indent: int) -> str:
-    """A tag, with its text beside it."""
+    """A tag, with its text next to it."""
     return textwrap.fill(text, WIDTH, initial_indent=f"  {tag:<{indent - 2}}", subsequent_indent=" " * indent)
 
 
 def commands(table: Sequence[str], name: str) -> Iterator[str]:
-    """A row for each command: its words, what it appends to and what it prints."""
+    """A row for each command: its arguments, what it appends to and what it prints."""
     for words, appends, prints in rows(table):
         yield hanging(
             words.replace("cca ", f"./{name} ", 1), f"{f'appends to {appends}; ' * bool(appends)}{prints}", 42
@@ -97,7 +97,7 @@ def version_text(name: str, program: Program) -> str:
 
 
 def put(text: str) -> int:
-    """Prints the text; returns the status, that of a fault of writing if the output can't be written."""
+    """Prints the text; returns the status, which is `WRITE_FAULT` if the output can't be written."""
     if sys.stdout is None:
         return WRITE_FAULT
     try:

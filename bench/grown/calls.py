@@ -13,7 +13,7 @@ from bench.grown.texts import CERT, PLACED
 from checks.cases import hostile_logs
 from checks.cases.samples import EXAMPLES, sample
 
-# Inputs that are of the award of hostile logs, whose bidders are b1 to b16.
+# Inputs for the award of the hostile logs, whose bidders are b1 to b16.
 HOSTILE = ("log", "view", "list", "pasted")
 ROOT = pathlib.Path(EXAMPLES).resolve().parent
 
@@ -46,7 +46,7 @@ def of(tool: str, words: str) -> Call:
 
 
 def digits_of(option: str) -> Callable[[int], bytes]:
-    """An option with a number of so many digits."""
+    """An option with a number of `count` digits."""
     return lambda count: option.encode() + b"\n" + b"1" * count + b"\n"
 
 
@@ -146,7 +146,7 @@ COUNTED = [
 # Every program with arguments that it refuses.
 PROGRAMS = sorted({call.tool for call in CALLS}) + ["./cca", "./trial", "second_proof/audit"]
 
-# Why an input, or a dimension of it, has no row.
+# The reasons why an input, or a dimension of it, has no row.
 NO_ROW = (
     "A dimension that ends in reading has one row for each reader: cca, tools/audit, tools/check, tools/check-places,"
     " and the package, whose tools read a file by one code. `--all` prints the others too.",
@@ -207,14 +207,14 @@ def fitting(call: Call, role: str, text: bytes) -> Mapping[str, bytes]:
 
 
 def command(call: Call, role: str, program: str) -> list[str]:
-    """The words of a call in the folder of its files."""
+    """The command line of a call in the folder of its files."""
     tool, bidder = program if call.tool == "cca" else str(ROOT / call.tool), "b1" if role in HOSTILE else "everest"
     words = (bidder if word == "BIDDER" else word for word in call.words)
     return [tool, *(word.lower() if word.isupper() else word.replace("_", " ") for word in words)]
 
 
 def certified(call: Call, role: str, program: str) -> list[str]:
-    """The words of a call of the program that makes the certificate of a call of a grown book or log; none if there is
+    """The command line of the program that makes the certificate for a call with a grown book or log; empty if there is
     no such certificate."""
     if "cert" not in call.roles() or role not in ("book", "log"):
         return []

@@ -5,7 +5,8 @@ from __future__ import annotations
 from collections.abc import Callable
 from typing import NamedTuple
 
-# How the dimensions begin whose texts within the limits are of the form of their input, and not refused in reading.
+# The beginnings of the dimensions whose texts within the limits have the form of their input and aren't refused in
+# reading.
 TAKEN = (
     *("bytes of a comment", "bidders", "records", "quoted records", "rounds", "bids of", "states", "places of"),
     *("edits", "entries", "lines", "torn lines", "rows of", "objects of", "spaces", "posted lines", "cuts"),

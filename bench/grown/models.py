@@ -62,12 +62,12 @@ def plans() -> Iterator[Grown]:
 
 
 def files(count: int) -> bytes:
-    """A list of so many names of one file of values."""
+    """A list of this many names of one file of values."""
     return b"[" + b", ".join(b'"%s"' % name for name in spelled("values", count)) + b"]"
 
 
 def spelled(name: str, count: int) -> list[bytes]:
-    """So many names of one file, which all differ."""
+    """This many different names of one file."""
     folders = itertools.islice(itertools.product((".//", "./"), repeat=11), count)
     return ["".join([*it, name]).encode() for it in folders]
 

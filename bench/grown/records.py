@@ -1,4 +1,4 @@
-"""What is noted, posted and kept in a journal, as it grows in one dimension."""
+"""Notes, posted lines and journals that grow in one dimension."""
 
 from __future__ import annotations
 
@@ -69,7 +69,7 @@ def posted(award: bytes) -> Iterator[Grown]:
 
 
 class Sealed:
-    """Posted lines with their seals, each of which covers the checksum of those before it."""
+    """Posted lines with their seals. Each seal covers the checksum of the lines before it."""
 
     def __init__(self, award: bytes) -> None:
         self.award, self.count = hashlib.sha256(award).hexdigest(), 0
@@ -91,7 +91,7 @@ def sum_of(text: str) -> str:
 
 
 def posted_lines(award: bytes, count: int) -> Iterator[bytes]:
-    """Lines of a clock that is closed, and begun again, over and over; by hand, without a journal."""
+    """Lines of a clock that is closed and started again, over and over; by hand, without a journal."""
     sealed = Sealed(award)
     for number in range(count):
         event, log = ("back to the start", "") if number % 2 else ("close 1", CLOSE)
@@ -133,7 +133,7 @@ def journal_of(award: bytes, count: int, text: str) -> bytes:
 
 
 def posting_journal(award: bytes, count: int) -> bytes:
-    """A journal of this many posted lines: a clock that is closed, and begun again, over and over."""
+    """A journal of this many posted lines: a clock that is closed and started again, over and over."""
     day, empty, closed = Day(award), sum_of(""), sum_of(CLOSE)
     for number in range(count):
         if number % 2:

@@ -1,6 +1,6 @@
 """Texts of each input that grow in one dimension, up to the limit of the input.
 
-The limits are those of docs/FORMATS.md; a text of bytes grows up to the limit of bytes of its file.
+The limits are from docs/FORMATS.md. A text of bytes grows up to the limit of bytes of its file.
 """
 
 from __future__ import annotations
@@ -23,7 +23,7 @@ PLACED = pathlib.Path(EXAMPLES, "..", "second_proof", "band.cert").read_bytes()
 
 
 class Toml(NamedTuple):
-    """A dimension of TOML: how many bytes one of it takes, and the text of a number of them at the top of a file."""
+    """A dimension of TOML: the bytes of one item, and the text of a number of items at the top of a file."""
 
     dimension: str
     size: int
@@ -65,7 +65,7 @@ TOML = (
 
 
 def toml(role: str, base: bytes) -> Iterator[Grown]:
-    """A file of TOML in all its dimensions, before a text that it has otherwise."""
+    """A file of TOML in all its dimensions, before its usual text."""
     room = MOST[f"{role} bytes"] - len(base) - 20
     for it in TOML:
         # (tables come after the keys of the top)
@@ -94,7 +94,7 @@ def awards() -> Iterator[Grown]:
 
 
 def hostile(kind: str) -> Callable[[int], bytes]:
-    """A log that costs much, up to a number of records."""
+    """A log that takes long, up to a number of records."""
 
     def text(count: int) -> bytes:
         lines = hostile_logs.LOGS[kind]()
@@ -111,7 +111,7 @@ def rounds(count: int) -> bytes:
 
 
 def whole_auction(count: int) -> bytes:
-    """A complete log of so many records: a clock of up to 299 rounds, then drafts, drops and submissions."""
+    """A complete log of this many records: a clock of up to 299 rounds, then drafts, drops and submissions."""
     lines, each = hostile_logs.ordinary(), hostile_logs.BIDDERS + 1
     last = each * (hostile_logs.ROUNDS - 1)
     clock = each * max(1, min(hostile_logs.ROUNDS - 1, count // 40))
@@ -120,12 +120,12 @@ def whole_auction(count: int) -> bytes:
 
 
 def after_the_end(count: int) -> bytes:
-    """A log with so many lines after the auction's end."""
+    """A log with this many lines after the auction's end."""
     return b"close,,,\n" * 2 + b"bid,b1,1 1,\n" * count
 
 
 def view(count: int) -> bytes:
-    """A bidder's own view of so many records."""
+    """A bidder's own view of this many records."""
     rounds = min(hostile_logs.ROUNDS - 1, count // 40)
     clock = b"".join(b"bid,b1,20 19,\nclose,,%d %d,\n" % (1_000 + it, 1_000 + it) for it in range(1, rounds + 1))
     packages = itertools.cycle(it for it in itertools.product(range(21), range(20)) if any(it))
@@ -189,7 +189,7 @@ def numbers(values: Sequence[int]) -> str:
 
 
 def many_bids(count: int) -> bytes:
-    """A book of a bidder with so many bids, also more than it may have."""
+    """A book of a bidder with this many bids, also more than it may have."""
     packages = itertools.islice(itertools.product(range(41), repeat=1), 1, 41)
     lines = [f"bid {it[0]} {100 * it[0]}" for it in packages]
     return (
@@ -249,7 +249,7 @@ def certificates(role: str, cert: bytes) -> Iterator[Grown]:
 
 
 def tables() -> Iterator[Grown]:
-    """Tables of bids for tools/book, with the supply `1 1`, and the same as JSON."""
+    """Tables of bids for tools/book, with the supply `1 1`, as CSV and as JSON."""
     room = MOST["bids bytes"] - 100
     head = b"bidder,first,second,amount\n"
     for dimension, size, text in (

@@ -1,12 +1,12 @@
 """Times `cca win`, `cca price` and `cca check` on books at the limits, next to a plain Rust program and general
 solvers.
 
-The books are those of `price`. It prints the median of the CPU times of whole runs in milliseconds, and whether both
+It uses the books of `price`. It prints the median of the CPU times of whole runs in milliseconds, and whether both
 programs print the same, and how much memory `cca win` and `cca check` keep: the book is the same, so what `check` keeps
 beyond `win` is what it needs for the certificate. The plain program has the best loops known. Then some certificates
-are broken in one number, and both checkers have to give the same verdict. The solvers cbc and glpsol, where they are
-installed, solve again all winner determinations that the certificate shows, each for at most this many seconds: what
-has to be done if there is no certificate. It needs rustc and python3.
+are broken in one number, and both checkers have to reach the same verdict. The solvers cbc and glpsol, if they are
+installed, solve again all winner determinations that the certificate shows, each for at most this many seconds: this
+work is needed without a certificate. It needs rustc and python3.
 """
 
 from __future__ import annotations
@@ -44,7 +44,7 @@ def tell(word: str, ours: Runs, theirs: Runs, same: bool) -> None:
 
 
 def broken_verdicts(kind: str, book: str, cert: str, plain: str) -> tuple[int, int]:
-    """How many broken certificates both checkers judge, and for how many of them they don't say the same."""
+    """How many broken certificates both checkers judge, and for how many of these their answers differ."""
     rng, text, name = random.Random(kind), read(cert), os.path.join(OUT, "broken.cert")
     judged, differ = 0, 0
     for _ in range(BREAKS):

@@ -1,9 +1,10 @@
-"""Times `tools/audit` beside `cca audit` on files at the limits of an award, a log and a certificate, in one run.
+"""Times `tools/audit`, compared with `cca audit`, on files at the limits of an award, a log and a certificate, in one
+run.
 
 It prints the least processor time of the runs in milliseconds, less a start's, how many times as long tools/audit
 takes, and the first line of the answer, which has to be the same. A time of `cca` below a millisecond isn't compared.
 Each file has its greatest length, or its greatest count of records, divided by PART, if the line doesn't name another
-length. Awards are read alone: a log and a certificate aren't asked for after a refusal.
+length. For an award that is refused, a log and a certificate aren't read.
 """
 
 from __future__ import annotations
@@ -27,7 +28,7 @@ SHORTEST = 1.0  # of the times of `cca` that are compared, in milliseconds
 
 
 class Sale(NamedTuple):
-    """An award, a log and a certificate as texts. The certificate may be empty, where it isn't read."""
+    """An award, a log and a certificate as texts. The certificate may be empty if it isn't read."""
 
     award: str
     log: str = ""
@@ -38,7 +39,7 @@ class Sale(NamedTuple):
 
 
 def awards(size: int) -> Iterator[tuple[str, Sale]]:
-    """Awards of this many bytes, none of which has the form of one."""
+    """Texts of this many bytes in place of an award; none has its form."""
     deep = "[" * 79 + "]" * 79 + ","
     keys = "".join(f"k{n} = 1\n" for n in range(size))
     yield "many keys", Sale(keys[: keys.rfind("\n", 0, size) + 1])
@@ -64,7 +65,7 @@ def awards(size: int) -> Iterator[tuple[str, Sale]]:
 
 
 def logs(records: int, size: int) -> Iterator[tuple[str, Sale]]:
-    """Logs of so many records, of which the last is a close, and such as are long otherwise."""
+    """Logs of this many records, with a close at the end, and logs that are long in other ways."""
     award = hostile_logs.award()
     for kind in hostile_logs.LOGS:
         yield kind, Sale(award, "\n".join([*hostile_logs.LOGS[kind]()[: records - 1], "close,,,"]) + "\n")
@@ -80,7 +81,7 @@ def logs(records: int, size: int) -> Iterator[tuple[str, Sale]]:
 
 
 def refused_submissions(records: int) -> list[str]:
-    """A draft list of which the last draft breaks its relative cap, submitted again and again."""
+    """A draft list whose last draft breaks its relative cap, submitted again and again."""
     clock = hostile_logs.Clock()
     lines = clock.lines + [hostile_logs.line("draft", 1, package, str(amount)) for package, amount in clock.amounts()]
     package, amount = clock.amounts()[-1]
@@ -89,7 +90,7 @@ def refused_submissions(records: int) -> list[str]:
 
 
 def many_drafts(records: int) -> list[str]:
-    """Drafts for more packages than a draft list holds, in turn."""
+    """Drafts for more packages than a draft list may have, in turn."""
     clock = hostile_logs.Clock()
     supply = hostile_logs.SUPPLY
     packages = [(a, b) for a in range(supply[0] + 1) for b in range(supply[1] + 1) if a or b]
@@ -98,7 +99,7 @@ def many_drafts(records: int) -> list[str]:
 
 
 def drafts_of_the_last(records: int) -> list[str]:
-    """A full draft list, and then, in turn, another amount for what was held last, which caps all drafts, and a
+    """A full draft list, and then, in turn, another amount for the last round's package, which caps all drafts, and a
     submission."""
     clock = hostile_logs.Clock()
     lines = clock.lines + [hostile_logs.line("draft", 1, package, str(amount)) for package, amount in clock.amounts()]
@@ -137,7 +138,7 @@ def doubling_log(supply: tuple[int, ...], bidders: int, drafts: int, rng: random
 
 
 def filled_certificate(lines: int, entries: int, size: int) -> str:
-    """A certificate of at most this many bytes, in which every bidder wins its first bid, which doesn't fit."""
+    """A certificate of at most this many bytes where every bidder wins its first bid, which doesn't fit."""
     bidders = lines - 1
     head = "cert 1" if bidders <= 12 and entries <= 4_096 else "cert 2\nlimits 16 16384"
     choice = " ".join(["choice", *["1"] * bidders])

@@ -38,7 +38,7 @@ COMMANDS = ("win", "price", "check")
 
 
 def write_book(bidders: int, bids: int, states: int) -> str:
-    """A book in which each package has at least three lots of the first category, so that at most five bidders win."""
+    """A book where each package has at least three lots of the first category, so that at most five bidders win."""
     rng = random.Random(f"{bidders} {bids} {states}")
     supply = SUPPLIES[states]
     reserve = RESERVE[: len(supply)]
@@ -56,7 +56,7 @@ def write_book(bidders: int, bids: int, states: int) -> str:
 
 
 def edits_file(book: str, bidder: int, count: int) -> str:
-    """A file of edits, each of which raises the first bid of a bidder by 1."""
+    """A file of edits. Each edit raises the first bid of a bidder by 1."""
     with open(book) as f:
         lines = f.read().splitlines()
     _, *counts, amount = lines[lines.index(f"bidder b{bidder}") + 1].split()
@@ -68,7 +68,8 @@ def edits_file(book: str, bidder: int, count: int) -> str:
 
 
 def edit_time(book: str, bidder: int, runs: int) -> float:
-    """The CPU time of an edit, in microseconds: that of many less that of few, by how many more they are."""
+    """The CPU time of an edit, in microseconds: the time of many edits less the time of few edits, divided by the
+    difference of their numbers."""
     few, many = (
         min(timed([CCA, "review", book, edits_file(book, bidder, count)])[0] for _ in range(runs))
         for count in (FEW, MANY)
@@ -93,7 +94,7 @@ def write_turns() -> str:
     """Six winners of a lot each, and a bidder with a bid for each set of their lots, nearly as high as the set is
     large.
 
-    Of 2,500 such books that were drawn this one has the most turns, so its points have to meet the most rows.
+    Among 2,500 such drawn books this one has the most turns, so its points have to meet the most rows.
     """
     rng = random.Random(91)
     bids = {}
@@ -112,8 +113,8 @@ def write_turns() -> str:
 
 
 def write_slots(bidders: int) -> str:
-    """A band of 40 slots in which all bidders have room, each with a bid on each slot where it may begin, worth more
-    near a place of its own."""
+    """A band of 40 slots with room for all bidders. Each has a bid on each slot where it may begin, worth more near a
+    place of its own."""
     rng = random.Random(f"slots {bidders}")
     lines = ["slots 1", "band 40"]
     for j in range(1, bidders + 1):
@@ -143,7 +144,7 @@ def place_times(bidders: int, runs: int) -> tuple[float, float]:
 
 
 def keep(rows: Iterable[Row]) -> None:
-    """Keeps the times in bench/growth.csv, from which `build/draw pictures` draws docs/pictures/growth.svg."""
+    """Keeps the times in bench/growth.csv, for `build/draw pictures`, which draws docs/pictures/growth.svg."""
     with open(MEASURED, "w", newline="", encoding="utf-8") as file:
         writer = csv.writer(file, lineterminator="\n")
         writer.writerow(FIELDS)

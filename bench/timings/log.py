@@ -1,8 +1,8 @@
 """Times `cca auction` on logs of 100,000 records, ordinary and hostile ones, in one run.
 
-Beside each log is the time of reading alone, as that of the same log whose last record is faulty, and how many times as
-long the whole run takes. A hostile log is to take at most about ten times as long as it takes to read. It prints the
-median of the CPU times in milliseconds, less that of a start.
+Next to each log is the time of only reading it, which is measured by the same log with a faulty last record, and how
+many times as long the whole run takes. A hostile log is to take at most about ten times as long as it takes to read. It
+prints the median of the CPU times in milliseconds, less the time of a start.
 """
 
 from __future__ import annotations

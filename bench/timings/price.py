@@ -1,11 +1,11 @@
 """Times `cca price` on books at the limits, next to a plain Rust program with the best loops known and general solvers.
 
 Each book has 16 bidders with 600 bids each over 15,876 states, and at most six winners; each run of cca writes a fresh
-certificate. The solvers cbc and glpsol, where they are installed, get the same winner determinations, each as an
-integer program, for at most this many seconds: that of all bidders, one without each winner, and one with lowered bids
-for the point of each turn. The nearest point is left out on their side. It prints the CPU time in milliseconds, the
-least of the runs, whether both certificates are the same, and whether each optimum is that which cca states. It needs
-rustc and python3.
+certificate. The solvers cbc and glpsol, if they are installed, get the same winner determinations, each as an integer
+program, for at most this many seconds: one with all bidders, one without each winner, and one with lowered bids for the
+point of each turn. The nearest point is left out on their side. It prints the CPU time in milliseconds, the least of
+the runs, whether both certificates are the same, and whether each optimum is the one that cca states. It needs rustc
+and python3.
 """
 
 from __future__ import annotations

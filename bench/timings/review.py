@@ -1,10 +1,11 @@
 """Times an edit of `cca review` on books at the limits, next to `cca win` from scratch.
 
-The books are those of `price`. Raises are of a bid of the first, a middle and the last bidder, and change no winner as
-long as the bid stays below, then the bid of each winner is taken out and put in again, so that each edit changes the
-winners. It prints the CPU time of one edit in milliseconds, which is that of many edits less that of few, divided by
-how many more they are, each the least of the runs, then that of `cca win`, less that of a start on the smallest book;
-what part of it an edit is, and whether the winners after the edits are those that `cca win` prints for the edited book.
+It uses the books of `price`. First it raises a bid of the first, a middle and the last bidder, which changes no winner
+as long as the bid stays too low. Then it takes out the bid of each winner and puts it in again, so that each edit
+changes the winners. It prints the CPU time of one edit in milliseconds: the time of many edits less the time of few,
+divided by the difference of their numbers, each time the least of the runs. Next to it are the time of `cca win`, less
+the time of a start on the smallest book, what part of it an edit takes, and whether the winners after the edits are the
+same as `cca win` prints for the edited book.
 """
 
 from __future__ import annotations
@@ -30,7 +31,7 @@ def written(name: str, lines: Iterable[str]) -> str:
 
 
 def raises(j: int, bid: Bid, count: int) -> list[str]:
-    """Edits, each of which raises the bid of bidder j by 1."""
+    """Edits. Each edit raises the bid of bidder j by 1."""
     counts, amount = " ".join(map(str, bid[0])), bid[1]
     return [f"raise b{j} {counts} {amount + more}" for more in range(1, count + 1)]
 

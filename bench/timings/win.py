@@ -1,8 +1,8 @@
 """Times `cca win` on books at the limits, next to a plain Rust program with the best loop known and general solvers.
 
-The books are those of `price`, and two kinds whose bids nearly all matter. It prints the least CPU time of the runs in
-milliseconds, less that of a start on the smallest book, and whether both programs print the same. The solvers cbc and
-glpsol, where they are installed, get the same winner determination as an integer program, for at most this many
+It uses the books of `price`, and two kinds whose bids nearly all matter. It prints the least CPU time of the runs in
+milliseconds, less the time of a start on the smallest book, and whether both programs print the same. The solvers cbc
+and glpsol, if they are installed, get the same winner determination as an integer program, for at most this many
 seconds. It needs rustc and python3.
 """
 

@@ -1,6 +1,6 @@
 """Draws docs/pictures/checks.svg: which program, script or proof checks which file.
 
-Files are rows and checkers are columns. A mark says that the checker tests the file: a dot, that the checker is proved
+Files are rows and checkers are columns. A mark shows that the checker tests the file: a dot, that the checker is proved
 or is a prover, and a square, that it is a program or a test that people read and run.
 """
 
@@ -15,7 +15,7 @@ from cca_tools.page.svg import width_of
 
 @dataclass(frozen=True)
 class Checker:
-    """What checks files: its words in the picture, and whether it is proved or a prover."""
+    """What checks files: its label in the picture, and whether it is proved or a prover."""
 
     words: str
     is_proof: bool = False
@@ -65,12 +65,12 @@ STEP, LINE, ROW, TOP = 16, 16, 19, 8
 
 
 def column(at: int) -> float:
-    """Where the column of a checker is: the first is at the right, so that no line crosses another's words."""
+    """The place of a checker's column: the first is at the right, so that no line crosses another's label."""
     return WIDTH - 10 - STEP * at
 
 
 def draw_heads(drawing: Drawing, bottom: float) -> None:
-    """The checkers by their words, each with a line that leads to its column."""
+    """The labels of the checkers, each with a line that leads to its column."""
     for at, checker in enumerate(CHECKERS):
         y, role = TOP + LINE * at + 8, "blue" if checker.is_proof else "green"
         drawing.text(4, y, checker.words, role)
@@ -79,7 +79,7 @@ def draw_heads(drawing: Drawing, bottom: float) -> None:
 
 
 def draw_row(drawing: Drawing, row: Checked, y: float) -> None:
-    """Files by their words, and a mark in the column of each of their checkers."""
+    """The labels of files, and a mark in the column of each of their checkers."""
     drawing.text(4, y + 4, row.words)
     for checker in row.by:
         x, says = column(CHECKERS.index(checker)), f"{row.words}: {checker.words}"

@@ -36,7 +36,7 @@ class Core:
 
     @property
     def unit(self) -> float:
-        """How long a unit of payment is, on both axes alike."""
+        """The length of a unit of payment, on both axes."""
         return (WIDTH - LEFT - 14) / (self.first.bid - self.left)
 
     @property

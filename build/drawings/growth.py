@@ -30,7 +30,7 @@ class Row:
     winners: int
 
     def said(self) -> str:
-        """The row in words."""
+        """A description of the row."""
         spent = ", ".join(f"{command} {time:.0f}" for command, time in self.times.items())
         return (
             f"{self.sizes['bidders']} bidders, {self.sizes['bids']} bids, {self.sizes['states']:,} states, of whom"

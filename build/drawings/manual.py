@@ -1,7 +1,7 @@
 """Makes the manual page of cca, docs/cca.1, from docs/FORMATS.md.
 
-Headings become sections, blocks of code stay as they are, and tables become lists: a tagged paragraph for each row.
-The commands come first, and what only the desk writes is left out. `man -l docs/cca.1` shows the page.
+Headings become sections, blocks of code stay unchanged, and tables become lists: a tagged paragraph for each row. The
+commands come first, and what only the desk writes is left out. `man -l docs/cca.1` shows the page.
 """
 
 from __future__ import annotations
@@ -17,7 +17,7 @@ cca \\- run a combinatorial clock auction, and price it by core-selecting prices
 """
 
 
-# What FORMATS says in sentences, as a reader of manual pages looks for it.
+# What FORMATS has in sentences, in the form for readers of manual pages.
 OPTIONS = """.SH OPTIONS
 .TP
 .B \\-\\-rounds
@@ -47,7 +47,7 @@ its tests.
 """
 SECTIONS = {"COMMANDS": "SYNOPSIS", "STATUSES": "EXIT STATUS"}
 OF_THE_DESK = "## The posted lines and the journal"
-# What is added to a cell, by the head of its column; cells of other columns stay as they are.
+# What is added to a cell, by the head of its column; cells of other columns stay unchanged.
 SAID = {
     "Appends to": "Appends to {}.",
     "Prints": "Prints {}.",
@@ -78,7 +78,7 @@ def table(rows: Iterable[str]) -> Iterator[str]:
 
 
 def options(tag: str) -> str:
-    """The options of a command, by the words that call it."""
+    """The options of a command, by its command line."""
     name = tag.split(" ")[1] if tag.startswith("cca ") else ""
     return "".join(f" [\\-\\-{it}]" for it in TAKES.get(name, "").split())
 

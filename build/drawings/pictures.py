@@ -2,7 +2,7 @@
 
 `core` and `rounds` are drawn from what cca prints of the samples, `growth` from the times that `bench/times growth`
 keeps in bench/growth.csv, `final-cap` from the results of a study in bench/final-cap.csv, and `checks` from what
-build/drawings/checkers.py says of each checker.
+build/drawings/checkers.py has about each checker.
 """
 
 from __future__ import annotations

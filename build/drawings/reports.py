@@ -1,6 +1,6 @@
 """Makes the reports of examples/.
 
-They are the report of the UK's sample and that of Day and Cramton's book, each as a page, and the first as a text too.
+They are reports about the UK's sample and about Day and Cramton's book, each as a page, and the first also as a text.
 It needs the program.
 """
 

@@ -26,7 +26,7 @@ class Category:
     demand: Sequence[int]
 
     def said(self) -> str:
-        """What the picture shows of it, in words."""
+        """A description of what the picture shows of it."""
         verb = "is" if self.supply == 1 else "are"
         prices = ", ".join(f"{price / 1000:g}" for price in self.prices)
         asked = ", ".join(map(str, self.demand))

@@ -1,9 +1,9 @@
 """Writes vectors/: the cases and their files.
 
-The answers come from the court's own files and from the rules of cca_tools, which have to agree, and
-from the program too where CCA_PROGRAM names it.
+The answers come from the court's own files and from the rules of cca_tools, which have to agree, and from the program
+too if CCA_PROGRAM names it.
 
-A case that an answer is written beside has to get this answer. It needs python3.
+If a case has a written answer, it has to get this answer. It needs python3.
 """
 
 from __future__ import annotations
@@ -85,7 +85,7 @@ class Vectors:
         self.blocks.append("\n".join(block))
 
     def answer(self, command: str, words: Sequence[str]) -> tuple[str, int]:
-        """What is printed, and the status, on which all voices agree."""
+        """What is printed, and the status; all voices have to agree on them."""
         paths = [
             word if word == "/dev/null" else os.path.join(self.folder, word) if word and word[0] != "-" else word
             for word in words
@@ -102,7 +102,7 @@ class Vectors:
         return said[0]
 
     def book(self, award: bytes, log: bytes) -> Book | None:
-        """The book of an award and a log, on which the voices agree, or None if there is none."""
+        """The book of an award and a log, or None if there is none; the voices have to agree on it."""
         paths = [os.path.join(self.folder, f"a-book.{kind}") for kind in ("award", "log")]
         for path, text in zip(paths, (award, log)):
             pathlib.Path(path).write_bytes(text)

@@ -1,5 +1,5 @@
-"""The script `cca`, over a stand-in for the kit's tool and six small crates: what it builds, by which calls, and what
-it says."""
+"""The script `cca`, over a stand-in for the kit's tool and six small crates: what it builds, its calls of the tool, and
+its messages."""
 
 from __future__ import annotations
 
@@ -106,7 +106,7 @@ class Case(unittest.TestCase):
         self.out = self.root / "crates" / "cca" / "out"
 
     def write(self, name: str, text: str) -> None:
-        """Gives a crate this text as its source."""
+        """Writes this text as the source of a crate."""
         (self.root / "crates" / name / "src" / "lib.rt").write_text(text)
 
     def begin(self, *words: str, path: str = "", by: str = "cca", **more: str) -> subprocess.Popen[str]:
@@ -124,13 +124,13 @@ class Case(unittest.TestCase):
         )
 
     def call(self, *words: str, path: str = "", by: str = "cca", **more: str) -> tuple[int, str, str]:
-        """The status, what is printed and what is reported beside it."""
+        """The status, the standard output and the standard error."""
         process = self.begin(*words, path=path, by=by, **more)
         out, told = process.communicate(timeout=40)
         return process.returncode, out, told
 
     def noted(self, name: str) -> list[str]:
-        """The lines that the tool noted of its calls, or of its proofs, since this was last asked."""
+        """The lines that the tool noted about its calls, or about its proofs, since the last call of this."""
         file = self.kit / name
         lines = file.read_text().splitlines() if file.exists() else []
         file.unlink(missing_ok=True)
@@ -148,7 +148,7 @@ class Case(unittest.TestCase):
         return re.findall(r"^cca: .* crates, .* s: (\w+)$", told, re.M)
 
     def built(self, **other: str) -> str:
-        """What the program says, if each crate's text is its name or another."""
+        """What the program prints, if each crate's text is its name or another."""
         return "made of " + " ".join(other.get(it, it) for it in sorted(PROGRAM)) + ", with a b\n"
 
 
@@ -366,7 +366,7 @@ class TheProgramThatWasProved(Case):
 
 
 class Doors(Case):
-    """What is answered at once, and how the script may be called."""
+    """The calls that get an answer at once, and the ways to call the script."""
 
     def test_help(self) -> None:
         """It has each command and each status of docs/FORMATS.md, and needs no kit."""
@@ -400,7 +400,7 @@ class Doors(Case):
         self.assertEqual(self.call("a", "b", by="../link")[:2], (3, self.built()))
 
     def test_an_environment_that_misleads(self) -> None:
-        """Variables of Python, of git and of the shell, each of which could lead to other files."""
+        """Variables of Python, of git and of the shell that could lead to other files."""
         for name in ("building.py", "subprocess.py", "build.py"):
             (self.root.parent / name).write_text("raise SystemExit(9)\n")
         for name, value in {
@@ -415,7 +415,7 @@ class Doors(Case):
                 self.assertEqual(self.call("a", "b", **{name: value})[:2], (3, self.built(left=name)))
 
     def test_streams(self) -> None:
-        """Standard error closed or full changes nothing; an answer that can't be printed is status 5."""
+        """Standard error closed or full changes nothing; a text that can't be printed is status 5."""
         for words, more, status in (
             ("a b", "2>&-", 3),
             ("a b", "2>/dev/full", 3),
@@ -435,7 +435,7 @@ class Doors(Case):
                 self.assertEqual(ran.returncode, status)
 
     def test_a_folder_that_cannot_be_written(self) -> None:
-        """Another user runs what is built, and learns why nothing can be built."""
+        """Another user runs what is built, and sees why nothing can be built."""
         if os.geteuid():
             self.skipTest("only root can call as another user")
         for folder in (self.root.parent, self.temporary):
@@ -470,7 +470,7 @@ class Doors(Case):
         self.assertEqual(self.call("a", "b")[:2], (3, self.built()))
 
     def works(self) -> bool:
-        """Whether a process of the kit goes on."""
+        """Whether a process of the kit still runs."""
         for folder in pathlib.Path("/proc").glob("[0-9]*"):
             try:
                 if str(self.kit).encode() in (folder / "cmdline").read_bytes():
@@ -480,7 +480,7 @@ class Doors(Case):
         return False
 
     def test_temporary_files_that_cannot_run(self) -> None:
-        """TMPDIR on a file system without exec: it says so before anything is proved."""
+        """TMPDIR on a file system without exec: the script reports it before anything is proved."""
         mount = f'mount -t tmpfs -o noexec none "{self.temporary}" && exec "$0" -E "$1" a b'
         words = ["unshare", "--mount", "--map-root-user", "sh", "-c", mount, sys.executable, str(self.root / "cca")]
         if (

@@ -74,7 +74,7 @@ class Files(unittest.TestCase):
 
 class Growth(unittest.TestCase):
     def test_each_size_doubles(self) -> None:
-        """The kept times are of books of which one size doubles, and the other two are at their limit."""
+        """The kept times are of books with one size that doubles, and the other two at their limit."""
         rows = growth.read_rows()
         for kind in growth.KINDS:
             grown = [row for row in rows if row.grown == kind]

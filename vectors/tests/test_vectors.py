@@ -60,7 +60,7 @@ class Vectors(unittest.TestCase):
                 self.assertEqual(said(command, words), {(case["printed"], case["status"])})
 
     def test_what_there_is(self) -> None:
-        """Each test of a certificate and each reply is the answer of some case, and no file is needless."""
+        """Each test of a certificate and each reply is the answer of some case, and each file is needed."""
         cases = list(runner().cases())
         self.assertGreaterEqual(len(cases), 300)
         self.assertEqual(len({case["case"] for case in cases}), len(cases))
