@@ -2,15 +2,19 @@
 
 from __future__ import annotations
 
+import concurrent.futures
+import pathlib
 import subprocess
 import sys
+import tempfile
 import unittest
 
+from checks import edge_tool_runs, traced
 from checks.cases.program import PROGRAM, with_program
-from checks.edge_tool_runs import NONE, Ended, deviations
-from checks.edge_tools import USES, Setting, Use
+from checks.edge_tool_runs import NONE, Ended, Room, deviations
+from checks.edge_tools import USES, Setting, Use, right_files
 from checks.tasks import ROOT
-from checks.traced import Call
+from checks.traced import FOR_EVER, Call, Fault
 
 BEFORE = {"day.book": b"book 1\n"}
 WHOLE = Ended(0, b"yes\n", b"", {**BEFORE, "new.cert": b"cert 1\nend\n"}, [], NONE, 1.0)
@@ -94,8 +98,30 @@ class Judge(unittest.TestCase):
             self.assertEqual(list(deviations(use, FAILS, whole, end, BEFORE)), told)
 
 
+def desks_without_memory(folder: str) -> dict[str, list[str]]:
+    """What the judge finds wrong of desks that can return no memory, or get none once their last thread starts."""
+    room = Room(pathlib.Path(folder), traced.compiled(pathlib.Path(folder)), right_files(PROGRAM), 60)
+    use, wrong = use_of("desk"), {}
+    room.fill("")
+    whole = edge_tool_runs.ended(room, use, Setting(), ["mmap"])
+    for call, first in (("munmap", 1), ("mmap", whole.traced.counts["mmap"])):
+        room.fill("")
+        setting = Setting("a call fails for ever", (Fault(call, first, FOR_EVER, "ENOMEM"),))
+        end = edge_tool_runs.ended(room, use, setting)
+        wrong[setting.shown()] = list(deviations(use, setting, whole, end, room.files))
+    return wrong
+
+
 class Runs(unittest.TestCase):
     """Some runs of each gate."""
+
+    @with_program
+    def test_a_desk_without_memory_ends_by_itself(self) -> None:
+        """No desk ends with SIGABRT, as glibc would end it."""
+        with tempfile.TemporaryDirectory() as folder, concurrent.futures.ProcessPoolExecutor(1) as pool:
+            for setting, wrong in pool.submit(desks_without_memory, folder).result().items():
+                with self.subTest(setting=setting):
+                    self.assertEqual(wrong, [])
 
     @with_program
     def test_runs(self) -> None:

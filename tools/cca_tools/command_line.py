@@ -7,6 +7,8 @@ do next. If a command has to print the same as `cca`, the line of the fault goes
 from __future__ import annotations
 
 import argparse
+import collections
+import contextlib
 import difflib
 import errno
 import os
@@ -150,6 +152,20 @@ def unraised(fault: sys.UnraisableHookArgs) -> None:
     end."""
     if not (isinstance(fault.exc_value, Exception) and reason(fault.exc_value)):
         sys.__unraisablehook__(fault)
+
+
+@contextlib.contextmanager
+def kept_until_the_end() -> Iterator[None]:
+    """A block of threads: `unraised` gets the faults that Python ignores in it once the block is left. A thread without
+    memory for a call of a function of Python has Python print that."""
+    faults: collections.deque[sys.UnraisableHookArgs] = collections.deque(maxlen=64)
+    sys.unraisablehook = faults.append
+    try:
+        yield
+    finally:
+        sys.unraisablehook = unraised
+        for fault in faults:
+            unraised(fault)
 
 
 def lacking(why: str) -> Stop:

@@ -27,16 +27,19 @@ What it doesn't test: that the lines are what the bidders sent.
 from __future__ import annotations
 
 import argparse
+import contextlib
+import ctypes
 import importlib.util
 import logging
 import os
 import resource
 import socket
 import sys
+import threading
 from collections.abc import Sequence
 from pathlib import Path
 
-from cca_tools.command_line import Parser, run_command, say, written
+from cca_tools.command_line import Parser, kept_until_the_end, run_command, say, written
 from cca_tools.rules.names import read_names
 from cca_tools.rules.pricing import winners_warning
 from cca_tools.rules.program import program
@@ -46,6 +49,7 @@ from cca_tools.terminal import progress
 
 HOST = "127.0.0.1"
 THREADS, CONNECTIONS, IDLE_SECONDS = 6, 1000, 15
+STACK = 4 << 20
 PACKAGES = {"flask": "python3-flask", "waitress": "python3-waitress"}
 NO_PROGRAM = (
     "the desk answers each line by both programs, and the program isn't built here. Build it once with ./cca, or say"
@@ -164,13 +168,23 @@ def served(options: argparse.Namespace, path: Path, port: int) -> str:
     listener = listener_on(port) if port else usual_listener(made.log.usual_port())
     guard = Guard(listener.getsockname()[1], second_key=new_key() if options.second else "")
     app = make_app(made, guard, Ending(made, path_of(options.names)), options.demand)
+    prepare_threads()
     second = f"second  {in_groups(guard.second_key)}\n" if options.second else ""
     if not written(
         sys.stdout, f"desk  {guard.origin}/\nkey   {in_groups(guard.key)}\n{second}room  {guard.origin}/posted"
     ):
         raise Stop("cca: stopped", WRITE_FAULT, why="the desk's address and key can't be printed")
-    serve(app, listener)
+    with kept_until_the_end():
+        serve(app, listener)
     return "The desk is closed."
+
+
+def prepare_threads() -> None:
+    """Has threads end whatever the system refuses then. glibc would end the process by SIGABRT if it could not load a
+    library for that, or not free the stacks beyond the 40 MiB that it keeps."""
+    with contextlib.suppress(OSError):  # (other C libraries do without it)
+        ctypes.CDLL("libgcc_s.so.1")
+    threading.stack_size(STACK)
 
 
 def serve(app: object, listener: socket.socket) -> None:
