@@ -104,9 +104,11 @@ class Parser(argparse.ArgumentParser):
         names = list(self.names_of_files(options))
         if "" in names:
             self.error("the name of a file is empty")
-        for place, name in enumerate(names):
-            if name in names[:place]:
+        known = set[str]()
+        for name in names:
+            if name in known:
                 self.error(f"two of the files have the same name, {name}")
+            known.add(name)
         return options
 
     def need_options(self, argv: Sequence[str]) -> None:
