@@ -302,11 +302,36 @@ class TemporaryFiles(unittest.TestCase):
         self.assertEqual(self.ended(8, script("report"), BOOK).returncode, 0)
 
     def test_no_place_at_all(self) -> None:
-        with unittest.mock.patch("tempfile.TemporaryDirectory", side_effect=FileNotFoundError(2, "No usable folder")):
+        with unittest.mock.patch("tempfile.gettempdir", side_effect=FileNotFoundError(2, "No usable folder")):
             with self.assertRaises(Stop) as caught, scratch_folder():
                 self.fail()
         self.assertEqual(caught.exception.status, 70)
         self.assertIn("No usable folder; make room there, or set TMPDIR", caught.exception.why)
+
+    def test_an_interrupt_as_the_folder_is_made(self) -> None:
+        """Ctrl-C comes before the call that makes the folder returns: nothing is left."""
+        make = os.mkdir
+
+        def interrupted(*words: object, **more: object) -> None:
+            make(*words, **more)  # type: ignore[arg-type]
+            raise KeyboardInterrupt
+
+        with tempfile.TemporaryDirectory() as room, unittest.mock.patch("tempfile.tempdir", room):
+            with unittest.mock.patch("os.mkdir", interrupted):
+                with self.assertRaises(KeyboardInterrupt), scratch_folder():
+                    self.fail()
+            self.assertEqual(os.listdir(room), [])
+
+    def test_a_folder_that_cannot_be_read_again(self) -> None:
+        """A folder that can't be opened or looked at stays, without a word."""
+        for call in ("open", "lstat", "stat", "scandir", "unlink", "rmdir"):
+            with self.subTest(call=call), tempfile.TemporaryDirectory() as room:
+                with unittest.mock.patch("tempfile.tempdir", room), scratch_folder() as folder:
+                    (folder / "book").write_bytes(b"book 1\n")
+                    refused = unittest.mock.patch(f"os.{call}", side_effect=PermissionError(13, "Permission denied"))
+                    refused.start()
+                    self.addCleanup(unittest.mock.patch.stopall)
+                unittest.mock.patch.stopall()
 
 
 if __name__ == "__main__":

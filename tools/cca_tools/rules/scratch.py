@@ -4,6 +4,8 @@ from __future__ import annotations
 
 import contextlib
 import errno
+import secrets
+import shutil
 import tempfile
 from collections.abc import Iterator
 from pathlib import Path
@@ -26,16 +28,23 @@ def scratch_folder() -> Iterator[Path]:
     Raises `Stop` if no place for one is found, or if its disk is full, even if only the program says so by status 5.
     """
     try:
-        made = tempfile.TemporaryDirectory(ignore_cleanup_errors=True)
+        # (its name is known before it is made, so that Ctrl-C leaves none)
+        folder = Path(tempfile.gettempdir(), f"cca-{secrets.token_hex(16)}")
     except OSError as fault:
         raise lacking(fault) from None
-    with made as folder:
+    try:
         try:
-            yield Path(folder)
+            folder.mkdir(mode=0o700)
+        except OSError as fault:
+            raise lacking(fault) from None
+        try:
+            yield folder
         except OSError as fault:
             if fault.errno not in NO_ROOM:
                 raise
             raise lacking(fault) from None
+    finally:
+        shutil.rmtree(folder, ignore_errors=True)
 
 
 def need_written(status: int) -> None:
