@@ -6,6 +6,7 @@ from __future__ import annotations
 import argparse
 import ast
 import importlib
+import os
 import pathlib
 from collections.abc import Callable, Sequence
 from typing import NamedTuple
@@ -57,6 +58,15 @@ def take(reader: argparse.ArgumentParser, *numbers: Number) -> None:
         reader.add_argument(it.name, type=whole, nargs="?", default=it.default, metavar=it.name.upper(), help=more)
 
 
+def need_program(reader: argparse.ArgumentParser, is_needed: bool = False) -> None:
+    """Ends the call with 2 if CCA_PROGRAM names no program that runs, or isn't set although a program `is_needed`."""
+    path = os.environ.get("CCA_PROGRAM")
+    if path and not (os.path.isfile(path) and os.access(path, os.X_OK)):
+        reader.error(f"CCA_PROGRAM names {path}, which isn't a program that can be run")
+    if is_needed and not path:
+        reader.error("CCA_PROGRAM names no program")
+
+
 def parser(name: str, what: str, folder: str, tasks: Sequence[Task]) -> argparse.ArgumentParser:
     """The parser for a program whose tasks are modules of this package."""
     form = argparse.RawDescriptionHelpFormatter
@@ -80,5 +90,7 @@ def main_of(folder: str, module: str) -> Callable[..., int | None]:
 
 def run(name: str, what: str, folder: str, tasks: Sequence[Task]) -> int:
     """Does the task that the arguments name, and returns its status."""
-    asked = parser(name, what, folder, tasks).parse_args()
+    reader = parser(name, what, folder, tasks)
+    asked = reader.parse_args()
+    need_program(reader)
     return main_of(folder, asked.module)(*(getattr(asked, one) for one in asked.names)) or 0

@@ -172,6 +172,31 @@ class Bench(unittest.TestCase):
                 self.assertEqual((done.returncode, done.stdout), (2, ""))
                 self.assertTrue(done.stderr.startswith(f"usage: {words[0]} "))
 
+    def test_a_program_that_is_not_there(self) -> None:
+        """CCA_PROGRAM names no file, a folder, or a file that can't be run."""
+        for words in (
+            ["checks/edge_runs", "1"],
+            ["checks/edge_runs", "--tools", "1"],
+            ["checks/compare", "books", "1"],
+            ["checks/compare", "second-proof", "1"],
+            ["checks/priced", "few"],
+            ["checks/figures"],
+            ["checks/attacks"],
+            ["checks/mutate", "1"],
+            ["checks/desk_auctions"],
+            ["checks/run_tests", "test_program_edge"],
+            ["bench/times", "log"],
+            ["build/draw", "vectors"],
+        ):
+            for path in ("/nowhere/cca", str(ROOT), str(ROOT / "VERSION")):
+                with self.subTest(words=words, path=path):
+                    argv = [sys.executable, str(ROOT / words[0]), *words[1:]]
+                    how = {**os.environ, "CCA_PROGRAM": path, "PYTHONDONTWRITEBYTECODE": "1"}
+                    done = subprocess.run(argv, capture_output=True, text=True, env=how, stdin=subprocess.DEVNULL)
+                    self.assertEqual((done.returncode, done.stdout), (2, ""))
+                    name = f"{words[0]}: error: CCA_PROGRAM names {path}, which is no program that can be run"
+                    self.assertEqual(done.stderr.splitlines()[-1], name)
+
     def test_each_exported_function_is_called(self) -> None:
         done = ran("checks/uncalled")
         self.assertEqual((done.returncode, done.stdout, done.stderr), (0, "", ""))
