@@ -194,7 +194,7 @@ class Bench(unittest.TestCase):
                     how = {**os.environ, "CCA_PROGRAM": path, "PYTHONDONTWRITEBYTECODE": "1"}
                     done = subprocess.run(argv, capture_output=True, text=True, env=how, stdin=subprocess.DEVNULL)
                     self.assertEqual((done.returncode, done.stdout), (2, ""))
-                    name = f"{words[0]}: error: CCA_PROGRAM names {path}, which is no program that can be run"
+                    name = f"{words[0]}: error: CCA_PROGRAM names {path}, which isn't a program that can be run"
                     self.assertEqual(done.stderr.splitlines()[-1], name)
 
     def test_each_exported_function_is_called(self) -> None:

@@ -158,8 +158,8 @@ def unraised(fault: sys.UnraisableHookArgs) -> None:
 
 @contextlib.contextmanager
 def kept_until_the_end() -> Iterator[None]:
-    """A block of threads: `unraised` gets the faults that Python ignores in it once the block is left. A thread without
-    memory for a call of a function of Python has Python print that."""
+    """A block of threads. After it, `unraised` gets the faults that Python ignored in it: if a thread had no memory to
+    call `unraised`, Python would print the fault."""
     faults: collections.deque[sys.UnraisableHookArgs] = collections.deque(maxlen=64)
     sys.unraisablehook = faults.append
     try:

@@ -203,13 +203,11 @@ class Words(WithFiles):
                 self.assertNotIn("has to", self.fault(name, *words, *["more"] * (4 if name != "caps" else 1)))
 
     def test_a_hundred_thousand_files(self) -> None:
-        """They are refused at once, as the time of their test grows as their number."""
+        """A tool refuses them as it refuses four; `bench/inputs` has the time."""
         words = [str(number) for number in range(100_000)]
         for name, fault in (("report", "at most three files"), ("explain", "`0` is no command")):
             with self.subTest(name):
-                began = time.process_time()
                 self.assertIn(fault, self.fault(name, *words))
-                self.assertLess(time.process_time() - began, 20)
 
     def test_names_that_aren_t_there(self) -> None:
         award, log = self.path("spectrum.award"), self.path("spectrum.log")

@@ -180,8 +180,8 @@ def served(options: argparse.Namespace, path: Path, port: int) -> str:
 
 
 def prepare_threads() -> None:
-    """Has threads end whatever the system refuses then. glibc would end the process by SIGABRT if it could not load a
-    library for that, or not free the stacks beyond the 40 MiB that it keeps."""
+    """Lets threads end whatever the system refuses then. glibc ends the process by SIGABRT if it can't load a library
+    for that, or can't free a stack. It frees none while all are below 40 MiB."""
     with contextlib.suppress(OSError):  # (other C libraries do without it)
         ctypes.CDLL("libgcc_s.so.1")
     threading.stack_size(STACK)
