@@ -243,8 +243,20 @@ def end(process: subprocess.Popen[bytes]) -> None:
         has_ended(process, 5)
 
 
-# Ends a group of processes once this process has ended, also by SIGKILL: that closes the input of this program.
-WATCHER = "import os, signal, sys; sys.stdin.read(); os.killpg(int(sys.argv[1]), signal.SIGKILL)"
+# Ends a group of processes once this process has ended, also by SIGKILL: that closes the input of this program. At
+# SIGTERM `rt` ends what it has started in other groups.
+WATCHER = """
+import os, signal, sys, time
+sys.stdin.read()
+try:
+    os.killpg(int(sys.argv[1]), signal.SIGTERM)
+    for _ in range(50):
+        time.sleep(0.1)
+        os.killpg(int(sys.argv[1]), 0)
+    os.killpg(int(sys.argv[1]), signal.SIGKILL)
+except ProcessLookupError:
+    pass
+"""
 
 
 @contextlib.contextmanager
