@@ -142,6 +142,10 @@ class Scripts(unittest.TestCase):
             for link in (first, second):
                 done = subprocess.run([link, *whole], cwd=folder, capture_output=True)
                 self.assertEqual((done.returncode, done.stdout, done.stderr), (0, said, b""))
+            os.symlink(script("check-places"), os.path.join(folder, "places"))
+            slots, placed = os.path.join(EXAMPLES, "band.slots"), str(ROOT / "second_proof" / "band.cert")
+            done = subprocess.run(["./places", slots, placed], cwd=folder, capture_output=True)
+            self.assertEqual((done.returncode, done.stdout[:4], done.stderr), (0, b"yes\n", b""))
 
     def test_every_script_whose_streams_take_nothing(self) -> None:
         for name in SCRIPTS:
