@@ -46,6 +46,22 @@
     crossed(svg)
     scales(svg)
   }
+  // words of a table that take lines though the gaps between its columns have room for them on one
+  for (const table of document.querySelectorAll("figure table")) {
+    const rows = [...table.rows].slice(0, 20), box = table.closest(".scroll")
+    if (!box || getComputedStyle(table).display !== "table" || rows.length < 2) continue
+    const range = document.createRange(), columns = [...rows[0].cells].keys()
+    const content = it => { range.selectNodeContents(it); return range.getBoundingClientRect() }
+    const wide = it => Math.max(...(it.children.length ? [...it.children] : [it]).map(at => content(at).width))
+    const wraps = it => it.matches("td.words") && [...it.querySelectorAll(":scope > span")].some(at => content(at).height > 2.2 * parseFloat(getComputedStyle(at).lineHeight))
+    const wrapped = rows.flatMap(row => [...row.cells]).filter(wraps)
+    if (!wrapped.length) continue
+    const spans = wrapped.flatMap(it => [...it.querySelectorAll(":scope > span")])
+    for (const it of spans) it.style.whiteSpace = "nowrap"
+    const needed = [...columns].reduce((sum, i) => sum + Math.max(...rows.map(row => row.cells[i]).filter(Boolean).map(wide)) + 12, -12)
+    for (const it of spans) it.style.whiteSpace = ""
+    if (needed < box.clientWidth) say(`a cell takes lines, and there is room: "${short(wrapped[0].innerText)}"`)
+  }
   // a size such as 2.6 GHz or 2 x 5 that a line breaks can be read as two items
   for (const { node, holder } of parts) for (const size of holder.closest("svg") ? [] : node.data.matchAll(/\d(?:\s[kMG]Hz\b|\sx\s\d)/g)) {
     const range = document.createRange()

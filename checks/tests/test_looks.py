@@ -183,6 +183,12 @@ class Planted(Looked):
         page = styled(report("spectrum"), f"{DARK} {{ .f-w1 {{ fill: #12171d }} }}")
         self.assert_found("a lot that is sold looks empty, with a contrast of 1.03", page, scheme="dark")
 
+    def test_a_cell_takes_lines_where_there_is_room(self) -> None:
+        """Gaps between columns take the room of words."""
+        gaps = ".wide figure th, .wide figure td { padding-right: 1.6rem }"
+        page = styled(report("spectrum"), f"{gaps} .wide figure thead th.number {{ width: 7rem }}")
+        self.assert_found('a cell takes lines, and there is room: "1 x b800, 2 x c2600, 4 x e2600', page, width=1920)
+
     def test_a_table_without_heads(self) -> None:
         page = without_heads(report("spectrum"), "Winners and prices, reserves included")
         self.assert_found('a table without heads: "Winners and prices, reserves included"', page)
