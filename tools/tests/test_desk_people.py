@@ -2,6 +2,7 @@
 
 from __future__ import annotations
 
+import html
 import io
 import pathlib
 import re
@@ -104,6 +105,13 @@ class Previews(Small):
             "It replaces line 1 of this bidder: 3 lots of 2 x 10 MHz.",
         ):
             self.assertIn(part, client.text())
+
+    def test_no_line_breaks_an_item_of_a_package(self) -> None:
+        """Between a count and its category are spaces at which no line ends."""
+        client = self.open()
+        client.send_to("preview", kind="bid", bidder="everest", package="1 0 3 0")
+        gap = "\N{NO-BREAK SPACE}"
+        self.assertIn(f"everest asks for 1{gap}x{gap}a800, 3{gap}x{gap}c2600.", html.unescape(client.page))
 
     def test_an_amount_out_of_proportion(self) -> None:
         client = self.open(SEALED)

@@ -33,8 +33,8 @@ class Speech:
         return name if long == name else f"{long} ({name})"
 
     def package(self, package: Package) -> str:
-        """A package in words, such as `1 x 700 MHz, 3 x 3.5 GHz`."""
-        return self._packages.package(package).replace("\N{NO-BREAK SPACE}", " ")
+        """A package in words, such as `1 x a800, 3 x c2600`; no line breaks between a count and its category."""
+        return self._packages.package(package)
 
     def amount(self, amount: Amount) -> str:
         """An amount with its unit and currency."""
