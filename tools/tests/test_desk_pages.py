@@ -601,6 +601,14 @@ class Auctions(DeskTest):
         client.send("end/award")
         self.assertEqual((client.page.count(prices.decode()), (self.folder / "day.log.cert").read_bytes()), (2, cert))
 
+    def test_what_a_winner_pays_has_its_head_beside_it(self) -> None:
+        """A phone has no room for packages and three amounts side by side."""
+        client = self.open(SAMPLE)
+        client.load("")
+        client.send("end/award")
+        heads = re.findall(r'<td role="cell" data-head="(.*?)"', matched(r"<table.*?</table>", client.page)[0])
+        self.assertEqual(heads, ["Won", "Bid", "Vickrey price", "Pays"] * 6)
+
     def test_the_drill_is_closed(self) -> None:
         award, log = self.folder / "drill.award", self.folder / "drill.log"
         subprocess.run([PROGRAM, "make", "7", award, log], check=True, stdout=subprocess.DEVNULL)

@@ -45,3 +45,9 @@ class Table:
     caption: str
     columns: Sequence[Column]
     rows: Sequence[Row]
+
+    @property
+    def has_blocks(self) -> bool:
+        """Whether each row is a block of cells on a phone, which has no room for so many columns or for packages."""
+        has_words = sum(not column.is_number for column in self.columns) > 1
+        return len(self.columns) > (4 if has_words else 5)
