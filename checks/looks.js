@@ -69,6 +69,17 @@
     range.setEnd(node, size.index + size[0].length)
     if (new Set([...range.getClientRects()].map(it => Math.round(it.top))).size > 1) say(`a line breaks "${size[0]}" of "${short(node.data)}"`)
   }
+  // a word of code that a line breaks after a hyphen can be read as two, and a short word of a table as none
+  const broken = (node, words) => [...node.data.matchAll(words)].find(word => {
+    const range = document.createRange()
+    range.setStart(node, word.index)
+    range.setEnd(node, word.index + word[0].length)
+    return new Set([...range.getClientRects()].map(it => Math.round(it.top))).size > 1
+  })
+  for (const { node, holder } of isReport ? [] : parts) {
+    const word = holder.closest("code") && !holder.closest("pre") && broken(node, /(?<!\S)(?=\S{2,24}(?!\S))\S*-\S*/g) || holder.closest("td, th") && broken(node, /\b[A-Za-z]{2,12}\b/g)
+    if (word) say(`a line breaks the word "${word[0]}" of "${short(node.data)}"`)
+  }
   for (const it of document.querySelectorAll(".details th")) if (getComputedStyle(it, "::before").content.includes("Line")) say(`a head of details is called a line: "${short(it.innerText)}"`)
 
   // lots of one category are equally wide, and all lots where the page says so, or as wide as their MHz; the axes of the core have one scale

@@ -242,6 +242,8 @@ class Bench(unittest.TestCase):
             self.assertIn(", 0 dead links\n", done.stdout)
             self.assertTrue((site / "docs" / "AUCTIONEER.html").is_file())
             self.assertIn('href="docs/AUCTIONEER.html"', (site / "index.html").read_text())
+            guide = (site / "docs" / "AUCTIONEER.html").read_text()
+            self.assertIn('<code><span class="whole">--copies</span> FOLDER</code>', guide)
             again = ran("build/site", str(site))
             self.assertEqual((again.returncode, again.stdout), (2, ""))
             self.assertIn("is there already", again.stderr)

@@ -183,6 +183,17 @@ class Planted(Looked):
         page = styled(report("spectrum"), f"{DARK} {{ .f-w1 {{ fill: #12171d }} }}")
         self.assert_found("a lot that is sold looks empty, with a contrast of 1.03", page, scheme="dark")
 
+    def test_a_broken_word(self) -> None:
+        """Of code after a hyphen, of a column within its letters, and of an item after its count."""
+        for inner, word in (
+            ("<code>tools/report --names</code>", 'the word "--names"'),
+            ("<table><tr><td>Appends</td></tr></table>", 'the word "Appends"'),
+            ("<p>20 x a800</p>", '"0 x a"'),
+        ):
+            with self.subTest(inner=inner):
+                page = PAGE.format(f'<div style="width: 1.5rem; overflow-wrap: anywhere">{inner}</div>')
+                self.assert_found(f"a line breaks {word}", page)
+
     def test_a_cell_takes_lines_where_there_is_room(self) -> None:
         """Gaps between columns take the room of words."""
         gaps = ".wide figure th, .wide figure td { padding-right: 1.6rem }"
