@@ -63,7 +63,7 @@
     if (needed < box.clientWidth) say(`a cell takes lines, and there is room: "${short(wrapped[0].innerText)}"`)
   }
   // a size or an item such as 2.6 GHz, 2 x 5 or 2 x a800 that a line breaks can be read as two
-  for (const { node, holder } of parts) for (const size of holder.closest("svg") ? [] : node.data.matchAll(/\d(?:\s[kMG]Hz\b|\sx\s\w|\slots?\b)/g)) {
+  for (const { node, holder } of parts) for (const size of holder.closest("svg") ? [] : node.data.matchAll(/\d(?:\s[kMG]Hz\b|\sx\s[\w.]+|\slots?(?=\sof\b))/g)) {
     const range = document.createRange()
     range.setStart(node, size.index)
     range.setEnd(node, size.index + size[0].length)

@@ -188,7 +188,7 @@ class Planted(Looked):
         for inner, word in (
             ("<code>tools/report --names</code>", 'the word "--names"'),
             ("<table><tr><td>Appends</td></tr></table>", 'the word "Appends"'),
-            ("<p>20 x a800</p>", '"0 x a"'),
+            ("<p>20 x a800</p>", '"0 x a800"'),
         ):
             with self.subTest(inner=inner):
                 page = PAGE.format(f'<div style="width: 1.5rem; overflow-wrap: anywhere">{inner}</div>')
