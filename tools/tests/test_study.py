@@ -49,6 +49,11 @@ share = [100, 60]
 ORIGIN = Origin("5a" * 32, "NOT PROVED: so", "1.0.0", "ab12", "c3" * 32, {"plan.toml": "d4" * 32})
 
 
+def take_interrupts() -> None:
+    """Lets Ctrl-C end a process even if this one ignores it."""
+    signal.signal(signal.SIGINT, signal.SIG_DFL)
+
+
 class WithPlan(unittest.TestCase):
     def setUp(self) -> None:
         folder = tempfile.TemporaryDirectory()
@@ -374,6 +379,23 @@ class Runs(WithPlan):
                 made.send_signal(number)
                 made.communicate(timeout=60)
             self.assertEqual(made.returncode, -number)
+
+    def test_an_interrupt_ends_the_auctions_that_run(self) -> None:
+        """The program never ends, and Ctrl-C ends it with its study."""
+        began, other = self.folder / "began", self.folder / "other"
+        other.write_text(f"#!/bin/sh\ntouch '{began}'\nexec sleep 600\n")
+        other.chmod(0o755)
+        with unittest.mock.patch.dict(os.environ, CCA_PROGRAM=str(other)), subprocess.Popen(
+            self.words("ended"), stderr=subprocess.PIPE, stdout=subprocess.PIPE, text=True, preexec_fn=take_interrupts
+        ) as made:
+            end = time.monotonic() + 120
+            while not began.exists() and time.monotonic() < end:
+                time.sleep(0.02)
+            made.send_signal(signal.SIGINT)
+            # (the program has the same standard error, which is closed once it has ended)
+            printed, said = made.communicate(timeout=60)
+        self.assertEqual((made.returncode, printed), (130, ""))
+        self.assertIn("0 auctions are kept; run it again to go on.", said)
 
     def test_a_study_that_is_killed_goes_on(self) -> None:
         text = PLAN.replace("auctions = 3", "auctions = 15")

@@ -58,6 +58,7 @@ is missing.
 from __future__ import annotations
 
 import argparse
+import contextlib
 import os
 import sys
 import time
@@ -149,12 +150,14 @@ def fill(store: Store, scheduler: str | None, processes: int | None) -> None:
     every = len(store.plan.cases) * store.plan.auctions
     counted = Count(every - len(jobs), every)
     total = store.origin.program
-    for done in on_dask(store.plan, jobs, scheduler, total) if scheduler else here(store.plan, jobs, processes):
-        if done.stop:
-            line, status, why = done.stop
-            raise Stop(line, status, why=f"auction {done.job.number} of case {done.job.case + 1}: {why}")
-        store.keep(done)
-        counted.one_more()
+    rows = on_dask(store.plan, jobs, scheduler, total) if scheduler else here(store.plan, jobs, processes)
+    with contextlib.closing(rows):
+        for done in rows:
+            if done.stop:
+                line, status, why = done.stop
+                raise Stop(line, status, why=f"auction {done.job.number} of case {done.job.case + 1}: {why}")
+            store.keep(done)
+            counted.one_more()
 
 
 def study(options: argparse.Namespace) -> str:

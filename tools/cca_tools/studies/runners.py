@@ -3,13 +3,15 @@
 from __future__ import annotations
 
 import asyncio
+import contextlib
+import multiprocessing
 import os
 import pathlib
 import signal
 import threading
 import time
 import zipfile
-from collections.abc import Iterator, Sequence
+from collections.abc import Generator, Iterator, Sequence
 from concurrent.futures import CancelledError, ProcessPoolExecutor, as_completed
 from concurrent.futures.process import BrokenProcessPool
 from typing import Any
@@ -52,14 +54,27 @@ def begin_worker(parent: int) -> None:
     threading.Thread(target=watch, daemon=True).start()
 
 
-def here(plan: Plan, jobs: Sequence[Job], processes: int | None = None) -> Iterator[Done]:
-    """The rows by this number of processes, by default one for each processor, as they come."""
+def end_workers() -> None:
+    """Ends the processes that run auctions, with their programs. A later run of the study runs these auctions."""
+    for worker in multiprocessing.active_children():
+        if worker.pid:
+            with contextlib.suppress(OSError):  # (it has ended, or has no group of its own yet)
+                os.killpg(worker.pid, signal.SIGKILL)
+            worker.kill()
+
+
+def here(plan: Plan, jobs: Sequence[Job], processes: int | None = None) -> Generator[Done, None, None]:
+    """The rows by this number of processes, by default one for each processor, as they come. If the caller needs no
+    more, or at Ctrl-C, the processes end at once."""
     workers = processes or len(os.sched_getaffinity(0))
     with ProcessPoolExecutor(workers, initializer=begin_worker, initargs=(os.getpid(),)) as pool:
         parts = [pool.submit(rows_of, plan, part, program()) for part in parts_of(jobs, workers)]
         try:
             for part in as_completed(parts):
                 yield from part.result()
+        except (GeneratorExit, KeyboardInterrupt):
+            end_workers()
+            raise
         except BrokenProcessPool:
             why = "a process of the study was killed, perhaps because memory ran out; run it again to go on"
             raise Stop("cca: stopped", CRASH, why=why) from None
@@ -169,7 +184,7 @@ def watch_workers(workers: Workers, address: str, end: threading.Event) -> None:
         end.wait(WAIT if count else POLL)
 
 
-def on_dask(plan: Plan, jobs: Sequence[Job], address: str, total: str) -> Iterator[Done]:
+def on_dask(plan: Plan, jobs: Sequence[Job], address: str, total: str) -> Generator[Done, None, None]:
     """The rows by the workers of a scheduler, as they come. Workers get this package from here, also those that come
     later, and what a lost worker had is done by another one. All have to have the program with this checksum."""
     distributed = dask()
