@@ -116,6 +116,8 @@ class Line(DeskTest):
         client.send("preview", kind="bid", bidder="tarn", package="3  1 0 0")
         self.assertEqual(client.heading(), "It would be refused")
         self.assertIn("3 x 20 + 1 x 40 = 100 points, and tarn is eligible for 96 in this round.", client.text())
+        gap = "\N{NO-BREAK SPACE}"
+        self.assertIn(f"3{gap}x{gap}20 + 1{gap}x{gap}40 = 100 points", client.page)
         actions = re.findall(r'<a class="button main"[^>]*>(.*?)</a>|<button[^>]*>(.*?)</button>', client.page)
         self.assertEqual(actions, [("", "Lock"), ("Correct it", ""), ("", "The bidder sent this: write it")])
         client.follow("Correct it")

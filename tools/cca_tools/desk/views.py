@@ -18,7 +18,7 @@ from cca_tools.desk.lists import draft_table, total_words
 from cca_tools.desk.sheets import MOST_FILE, Handed
 from cca_tools.desk.tables import NONE, Cell, Column, Row, Table, Tone
 from cca_tools.desk.told import Speech, list_warnings, told_lines
-from cca_tools.page.words import commas, count, number
+from cca_tools.page.words import commas, count, joined, number
 from cca_tools.rules.auction import Auction, Reply
 from cca_tools.rules.award import Award
 from cca_tools.rules.log import Line
@@ -398,7 +398,7 @@ def stage_tables(auction: Auction, speech: Speech) -> list[Table]:
 
 def line_view(award: Award, line: Line, reply: Reply, place: int | None, time: str = "", mark: str = "") -> LineView:
     """A line with its reply in words."""
-    words = commas(reason(award, line, reply))
+    words = joined(commas(reason(award, line, reply)))
     return LineView(number(place) if place else "", record_text(line), reply.text(), words, reply.is_ok, time, mark)
 
 

@@ -2,12 +2,11 @@
 
 from __future__ import annotations
 
-import re
 from collections.abc import Callable, Iterator, Sequence
 
 from cca_tools.page.document import Card, Cards, Cell, Content, Fold, Section, Table, Tone, Words, columns
 from cca_tools.page.source import Source, given
-from cca_tools.page.words import Names, commas, count, number, was
+from cca_tools.page.words import Names, commas, count, joined, number, was
 from cca_tools.rules.auction import Auction, Reply
 from cca_tools.rules.award import dot
 from cca_tools.rules.log import Line
@@ -51,12 +50,6 @@ def admitted(line: Line, reply: Reply, source: Source) -> str:
         "drop": "Taken out of the list",
         "submit": "The list is submitted",
     }[line.kind]
-
-
-def joined(text: str) -> str:
-    """The text with the counts of packages, and what is multiplied, on one line each."""
-    text = re.sub(r"(?<=\d) (?=\d+\b(?! [x=]))", "\N{NO-BREAK SPACE}", text)
-    return re.sub(r"(?<=\d) x (?=\d)", "\N{NO-BREAK SPACE}x\N{NO-BREAK SPACE}", text)
 
 
 def refused_list(line: Line, reply: Reply, cap: Cap, source: Source) -> Cell:

@@ -110,6 +110,12 @@ def listed(items: Iterable[str], last: str = "and") -> str:
     return every[0] if len(every) == 1 else f"{', '.join(every[:-1])} {last} {every[-1]}" if every else "nobody"
 
 
+def joined(text: str) -> str:
+    """The text with the counts of packages, and what is multiplied, on one line each."""
+    text = re.sub(r"(?<=\d) (?=\d+\b(?! [x=]))", "\N{NO-BREAK SPACE}", text)
+    return re.sub(r"(?<=\d) x (?=\d)", "\N{NO-BREAK SPACE}x\N{NO-BREAK SPACE}", text)
+
+
 def counts(package: Package) -> str:
     """A package as the program writes it."""
     return " ".join(map(str, package))
