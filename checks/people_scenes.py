@@ -140,7 +140,7 @@ def published(held: Auction) -> None:
     screen.evaluate("document.querySelectorAll('details').forEach(it => it.open = true)")
     page = " ".join(screen.ask("document.body.innerText").split())
     for words in (
-        "Eight winners pay 680 for all 8 lots.",
+        "Eight winners pay 680 for all 8 lots",
         *(f"{name} {lots[:9]} {pays}" for name, lots, _, _, pays in EIGHT_PRICES[:-1]),
         "prices found not by cca, which prices at most 6 winners",
         "cca, whose audit says yes",
